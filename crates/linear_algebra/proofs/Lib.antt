@@ -1,0 +1,2 @@
+pub mod FieldAxioms
+pub mod PrimeFields

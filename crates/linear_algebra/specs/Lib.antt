@@ -1,0 +1,5 @@
+pub mod Field
+pub mod FieldLaws
+pub mod FieldTables
+pub mod FieldTests
+pub mod Sums
