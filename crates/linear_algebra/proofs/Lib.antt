@@ -1,2 +1,5 @@
+pub mod Blocks
 pub mod FieldAxioms
+pub mod MatrixLaws
+pub mod PartsLaws
 pub mod PrimeFields
