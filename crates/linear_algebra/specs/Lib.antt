@@ -4,4 +4,6 @@ pub mod FieldTables
 pub mod FieldTests
 pub mod Matrix
 pub mod Parts
+pub mod Reduced
+pub mod Rows
 pub mod Sums
