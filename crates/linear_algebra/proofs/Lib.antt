@@ -4,5 +4,6 @@ pub mod MatrixLaws
 pub mod PartsLaws
 pub mod PrimeFields
 pub mod Reduced
+pub mod ReducedSpans
 pub mod RowSteps
 pub mod Rows
