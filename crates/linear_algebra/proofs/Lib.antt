@@ -1,9 +1,15 @@
 pub mod Blocks
+pub mod Dimension
 pub mod FieldAxioms
 pub mod MatrixLaws
 pub mod PartsLaws
 pub mod PrimeFields
+pub mod Products
+pub mod RankExists
 pub mod Reduced
 pub mod ReducedSpans
 pub mod RowSteps
 pub mod Rows
+pub mod Search
+pub mod Solving
+pub mod Steinitz

@@ -1,10 +1,13 @@
 -- The laws of parts of a matrix: rows, columns, unit rows, scalars, and the two ways to cut a matrix in two.
-use Rattle.std.proofs.Common.{ℕ, zero, ◌+◌, ◌%◌, ◌<◌, ◌≡◌, refl, sym, ap, ◌∙◌, arith, inl, inr, cond, ltb, lt-ltb, mod-eq_of_lt}
+use Rattle.std.proofs.Common.{ℕ, zero, ◌+◌, ◌%◌, ◌<◌, ◌≡◌, ◌≢◌, refl, sym, ap, ◌∙◌, arith, inl, inr, cond, ltb, lt-ltb, mod-eq_of_lt}
 use Rattle.std.proofs.lemmas.Bool.{cond-true}
-use Rattle.linear_algebra.specs.Field.{Gf, order}
-use Rattle.linear_algebra.specs.Matrix.{Mat, Row, Column, Mat-eq, Mat-eq_below, made, reshape, one, ◌·◌, transpose, stack, beside}
-use Rattle.linear_algebra.specs.Parts.{row, column, unit, scalar, upper, lower, left_part, right_part}
-use Rattle.linear_algebra.proofs.MatrixLaws.{one_mul_mat, transpose_mul, transpose_transpose}
+use Rattle.linear_algebra.specs.Field.{Gf, order, add, mul, inv}
+use Rattle.linear_algebra.specs.FieldLaws.{zero_add, mul_below, mul_comm, mul_inv, inv_below}
+use Rattle.linear_algebra.specs.Sums.{sum-suc, sum-none}
+use Rattle.linear_algebra.specs.Rank.{HasInverse}
+use Rattle.linear_algebra.specs.Matrix.{Mat, Row, Column, Mat-eq, Mat-eq_below, made, reshape, zeros, delta-same, one, ◌·◌, transpose, stack, beside}
+use Rattle.linear_algebra.specs.Parts.{row, column, unit, unit_column, scalar, upper, lower, left_part, right_part}
+use Rattle.linear_algebra.proofs.MatrixLaws.{one-at, one_mul_mat, mul_one_mat, transpose_mul, transpose_one, transpose_transpose}
 use Rattle.linear_algebra.proofs.Blocks.{join_cases, join-first, join-shifted, transpose_stack, transpose_beside}
 
 -- Entries of what is made from plain functions.
@@ -54,6 +57,10 @@ pub unit_mul : {q : Gf} {m n : ℕ} (i : ℕ) (a : Mat q m n) → unit q m i · 
 unfolding unit
 unit_mul {q} {m} i a = sym (row-mul i (one q m) a) ∙ ap (row i) (one_mul_mat a)
 
+pub row_zeros : (q : Gf) (m n i : ℕ) → row i (zeros q m n) ≡ zeros q 1 n
+unfolding row zeros
+row_zeros q m n i = Row-eq _ _ (λ j h. refl)
+
 pub column-mul : {q : Gf} {m k n : ℕ} (j : ℕ) (a : Mat q m k) (b : Mat q k n) → column j (a · b) ≡ a · column j b
 unfolding ◌·◌ row column transpose
 column-mul j a b = Mat-eq_below _ _ (λ i t h k. let first : t ≡ 0 = omega arith in
@@ -76,10 +83,38 @@ equal_on_columns {q} {m} {n} a b e =
     flip : (c : Mat q m n) (x : Row q n) → x · transpose c ≡ transpose (c · transpose x)
     flip c x = ap (λ z. z · transpose c) (sym (transpose_transpose x)) ∙ sym (transpose_mul c (transpose x))
 
+pub mul_unit_column : {q : Gf} {m n : ℕ} (a : Mat q m n) (j : ℕ) → a · unit_column q n j ≡ column j a
+unfolding unit_column unit column
+mul_unit_column {q} {m} {n} a j =
+    ap (λ (z : Mat q n n). a · transpose (row j z)) (sym (transpose_one q n)) ∙ sym (column-mul j a (one q n)) ∙ ap (column j) (mul_one_mat a)
+
 -- Scalars.
 pub scalar-at : (q : Gf) (c : ℕ) → (scalar q c).at 0 0 ≡ c % order q
 unfolding scalar
 scalar-at q c = made-at q 1 1 (λ i j. c) 0 0 (omega arith) (omega arith)
+
+pub product_1 : {q : Gf} (a b : Mat q 1 1) → (a · b).at 0 0 ≡ mul q (a.at 0 0) (b.at 0 0)
+unfolding ◌·◌
+product_1 {q} a b = sum-suc q 0 (λ t. mul q (a.at 0 t) (b.at t 0)) ∙ ap (λ s. add q s (mul q (a.at 0 0) (b.at 0 0))) (sum-none q _) ∙ zero_add q (mul q (a.at 0 0) (b.at 0 0)) (mul_below q (a.at 0 0) (b.at 0 0))
+
+pub commute_1 : {q : Gf} (a b : Mat q 1 1) → a · b ≡ b · a
+commute_1 {q} a b = Mat_1-eq _ _ (product_1 a b ∙ mul_comm q (a.at 0 0) (b.at 0 0) ∙ sym (product_1 b a))
+
+pub one_1-at : (q : Gf) → (one q 1).at 0 0 ≡ 1
+one_1-at q = one-at q 1 0 0 (omega arith) ∙ delta-same 0
+
+pub mul-inv_1 : {q : Gf} (a : Mat q 1 1) → a.at 0 0 ≢ 0 → a · scalar q (inv q (a.at 0 0)) ≡ one q 1
+mul-inv_1 {q} a n = Mat_1-eq _ _ (
+    product_1 a (scalar q (inv q (a.at 0 0)))
+    ∙ ap (mul q (a.at 0 0)) (scalar-at q (inv q (a.at 0 0)) ∙ mod-eq_of_lt (inv_below q (a.at 0 0)))
+    ∙ mul_inv q (a.at 0 0) (a.fits.small 0 0) n ∙ sym (one_1-at q))
+
+pub invertible_1 : {q : Gf} (a : Mat q 1 1) → a.at 0 0 ≢ 0 → HasInverse a
+invertible_1 {q} a n = record {
+  inverse = scalar q (inv q (a.at 0 0));
+  right = mul-inv_1 a n;
+  left = commute_1 (scalar q (inv q (a.at 0 0))) a ∙ mul-inv_1 a n;
+}
 
 pub scalar_of : {q : Gf} (a : Mat q 1 1) → scalar q (a.at 0 0) ≡ a
 scalar_of {q} a = Mat_1-eq _ _ (scalar-at q (a.at 0 0) ∙ mod-eq_of_lt (a.fits.small 0 0))
