@@ -1,6 +1,7 @@
 pub mod Blocks
 pub mod Dimension
 pub mod FieldAxioms
+pub mod Inverses
 pub mod MatrixLaws
 pub mod PartsLaws
 pub mod PrimeFields
@@ -13,3 +14,4 @@ pub mod Rows
 pub mod Search
 pub mod Solving
 pub mod Steinitz
+pub mod Subspaces

@@ -35,6 +35,14 @@ pub column-at : {q : Gf} {m n : ℕ} (k : ℕ) (a : Mat q m n) (i : ℕ) → (co
 unfolding column row transpose
 column-at k a i = refl
 
+pub unit-row : (q : Gf) (n i : ℕ) → unit q n i ≡ row i (one q n)
+unfolding unit
+unit-row q n i = refl
+
+pub unit-at : (q : Gf) (n i j : ℕ) → (unit q n i).at 0 j ≡ (one q n).at i j
+unfolding unit
+unit-at q n i j = row-at i (one q n) j
+
 -- Matrices are equal if their rows are, and rows if their entries are.
 pub rows_equal : {q : Gf} {m n : ℕ} (a b : Mat q m n) → ((i : ℕ) → i < m → row i a ≡ row i b) → a ≡ b
 rows_equal a b e = Mat-eq_below a b (λ i j h k. sym (row-at i a j) ∙ ap (λ (x : Row _ _). x.at 0 j) (e i h) ∙ row-at i b j)
@@ -162,3 +170,9 @@ module _ {q : Gf} {m k n : ℕ} where
 
   pub beside_second : (a c : Mat q m k) (b d : Mat q m n) → beside a b ≡ beside c d → b ≡ d
   beside_second a c b d e = sym (right_beside a b) ∙ ap (right_part k n) e ∙ right_beside c d
+
+pub unit_unit : (q : Gf) (n i : ℕ) → i < n → unit q n i · unit_column q n i ≡ one q 1
+unit_unit q n i h =
+    Mat_1-eq _ _ (
+    ap (λ (z : Mat q 1 1). z.at 0 0) (mul_unit_column (unit q n i) i) ∙ column-at i (unit q n i) 0
+    ∙ unit-at q n i i ∙ one-at q n i i h ∙ delta-same i ∙ sym (one_1-at q))

@@ -4,6 +4,7 @@ pub mod FieldTables
 pub mod FieldTests
 pub mod Matrix
 pub mod Parts
+pub mod Powers
 pub mod Rank
 pub mod Reduced
 pub mod Rows

@@ -1,0 +1,19 @@
+-- Powers of a square matrix.
+use Rattle.std.specs.Prelude.{ℕ, zero, suc, ◌≡◌}
+use Rattle.linear_algebra.specs.Field.{Gf}
+use Rattle.linear_algebra.specs.Matrix.{Mat, zeros, one, ◌⊞◌, ◌·◌}
+
+-- x multiplied k times by itself
+unfoldable pub mat_power : {q : Gf} {n : ℕ} → Mat q n n → ℕ → Mat q n n
+mat_power {q} {n} x zero = one q n
+mat_power x (suc k) = x · mat_power x k
+
+-- 1 + x + .. + x^(k − 1)
+unfoldable pub geometric : {q : Gf} {n : ℕ} → Mat q n n → ℕ → Mat q n n
+geometric {q} {n} x zero = zeros q n n
+geometric x (suc k) = geometric x k ⊞ mat_power x k
+
+-- Some power is zero.
+pub record IsNilpotent {q : Gf} {n : ℕ} (x : Mat q n n) : Type 0 where
+  pub exponent : ℕ
+  pub vanishes : mat_power x exponent ≡ zeros q n n
