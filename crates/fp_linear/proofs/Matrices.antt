@@ -1,0 +1,35 @@
+-- What the fields of a `Matrix` say of the matrix that contracts see.
+use Rattle.std.proofs.Common.{ℕ, ◌<◌, ◌≤◌, ◌≡◌, ◌+◌, ◌*◌, inl, inr, List, [], ◌++◌, length, get_or, take, drop, replicate, sym, ap, ◌∙◌, arith}
+use Rattle.std.proofs.lemmas.List.{get_or-take, get_or-drop, length-take-le, length-drop, get_or-replicate, get_or_past, length-replicate, take_at}
+use Rattle.std.proofs.lemmas.Nat.{row_fits}
+use Rattle.std.proofs.lemmas.Bool.{cases_lt}
+use Rattle.linear_algebra.specs.Field.{Gf}
+use Rattle.linear_algebra.specs.Rows.{rows_of, zeros}
+use Rattle.linear_algebra.proofs.Rows.{list_of-is, list_of-same, row-rows_of}
+use Rattle.fp_linear.specs.Slices.{AreElements}
+use Rattle.fp_linear.specs.Matrix.{plain, IsMatrix, HoldsMatrix, zero_rows}
+use Rattle.fp_linear.proofs.Cells.{IsGrid-rows_of}
+
+pub IsMatrix-held : (q : Gf) (m n : ℕ) (s : List ℕ) → HoldsMatrix q m n s → IsMatrix (plain q m n (rows_of m n s))
+IsMatrix-held q m n s h = record { grid = IsGrid-rows_of q m n s h.small; fits = h.fits }
+
+-- a row as a part of the slice
+pub row-part : (m n i k : ℕ) (s : List ℕ) → length s ≡ m * n → i < m → k ≡ n → take k (drop (i * n) s) ≡ get_or (rows_of m n s) i []
+row-part m n i k s e h l =
+    let f = row_fits i n m n h (omega arith) in
+    list_of-is n (λ j. get_or s (i * n + j) 0) (take k (drop (i * n) s)) 0 (length-take-le k (drop (i * n) s) (simp length-drop (omega arith)) ∙ l)
+    (λ j b. get_or-take k (drop (i * n) s) j 0 (omega arith) ∙ get_or-drop (i * n) s j 0)
+    ∙ sym (row-rows_of m n s i h)
+
+pub rows_of-zeros : (m n : ℕ) (s : List ℕ) → s ≡ replicate (m * n) 0 → rows_of m n s ≡ zero_rows m n
+unfolding rows_of zero_rows zeros
+rows_of-zeros m n s e = list_of-same m _ _ [] (λ i l. list_of-same n _ _ 0 (λ j k. ap (λ s. get_or s (i * n + j) 0) e ∙ zero_at (i * n + j)))
+  where
+    zero_at : (k : ℕ) → get_or {A = ℕ} (replicate (m * n) 0) k 0 ≡ 0
+    zero_at k = elim (cases_lt k (m * n)) [ inl l ↦ get_or-replicate (m * n) k 0 0 l | inr l ↦ get_or_past (replicate (m * n) 0) k 0 (let c = length-replicate {A = ℕ} (m * n) 0 in omega arith) ]
+
+-- the entries of a vector after a call on it as a slice
+pub HoldsMatrix-written : (q : Gf) (m n k : ℕ) (s old new : List ℕ) → s ≡ take k (new ++ old) → k ≡ length new → length new ≡ m * n → AreElements q new → m * n ≤ 67108864 → HoldsMatrix q m n s
+HoldsMatrix-written q m n k s old new e l c a f =
+    let w : s ≡ new = e ∙ take_at new old k (sym l) in
+    rw w (record { count = c; small = a; fits = f })

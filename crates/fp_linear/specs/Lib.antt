@@ -1,0 +1,5 @@
+pub mod Elimination
+pub mod Matrix
+pub mod Sizes
+pub mod Slices
+pub mod Tables

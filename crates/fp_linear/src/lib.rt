@@ -1,0 +1,15 @@
+//! Linear algebra over the small finite fields of the table: scalars, matrices, elimination, kernels and solutions.
+#![tactic(auto)]
+
+mod add;
+mod echelon;
+mod field;
+mod matrix;
+mod tables;
+
+pub use echelon::echelon_rows;
+pub use field::Field;
+pub use matrix::{Matrix, echelon_in_place};
+
+#[cfg(test)]
+mod tests;
