@@ -151,3 +151,6 @@ no_rows a b = Mat-eq_below a b (λ i j h k. absurd (omega arith))
 
 pub no_columns : {q : Gf} {m : ℕ} (a b : Mat q m 0) → a ≡ b
 no_columns a b = Mat-eq_below a b (λ i j h k. absurd (omega arith))
+
+pub no_rows_zeros : {q : Gf} {m n : ℕ} → m ≡ 0 → (a : Mat q m n) → a ≡ zeros q m n
+no_rows_zeros {q} {m} {n} e a = Mat-eq_below a (zeros q m n) (λ i j h k. absurd (omega arith))

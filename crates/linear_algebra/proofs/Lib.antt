@@ -1,8 +1,11 @@
 pub mod Blocks
 pub mod Dimension
+pub mod Families
 pub mod FieldAxioms
+pub mod Fitting
 pub mod Inverses
 pub mod MatrixLaws
+pub mod NilOrFixed
 pub mod PartsLaws
 pub mod PrimeFields
 pub mod Products

@@ -2,7 +2,7 @@
 use Rattle.std.proofs.Common.{ℕ, zero, ◌<◌, ◌≡◌, refl, sym, ap, ap₂, ◌∙◌, inl, inr, ltb, lt-ltb, mod-eq_of_lt}
 use Rattle.std.proofs.lemmas.Bool.{cases_eq, cond-true}
 use Rattle.linear_algebra.specs.Field.{Gf, add, mul, neg}
-use Rattle.linear_algebra.specs.FieldLaws.{add_assoc, add_comm, add_left_comm, add_zero, zero_add, add_neg, neg-add, neg_neg, neg_zero, mul_assoc, mul_comm, mul_left_comm, mul_one, one_mul, mul_zero, zero_mul, mul_add, add_mul, mul_neg, neg_mul, mod-mul}
+use Rattle.linear_algebra.specs.FieldLaws.{add_swap, add_assoc, add_comm, add_left_comm, add_zero, zero_add, add_neg, neg-add, neg_neg, neg_zero, mul_assoc, mul_comm, mul_left_comm, mul_one, one_mul, mul_zero, zero_mul, mul_add, add_mul, mul_neg, neg_mul, mod-mul}
 use Rattle.linear_algebra.specs.Sums.{sum_to, sum-ext, sum-zeros, sum-add, mul-sum, sum-mul, neg-sum, sum-swap, sum-single}
 use Rattle.linear_algebra.specs.Matrix.{Mat, Mat-eq, Mat-eq_below, zeros, delta, delta-same, delta-other, one, ◌⊞◌, negative, ◌⊟◌, ◌⊙◌, ◌·◌, transpose}
 
@@ -18,6 +18,10 @@ module _ {q : Gf} {m n : ℕ} where
   pub add_left_comm_mat : (a b c : Mat q m n) → a ⊞ (b ⊞ c) ≡ b ⊞ (a ⊞ c)
   unfolding ◌⊞◌
   add_left_comm_mat a b c = Mat-eq _ _ (λ i j. add_left_comm q (a.at i j) (b.at i j) (c.at i j))
+
+  pub add_swap_mat : (a b c d : Mat q m n) → (a ⊞ b) ⊞ (c ⊞ d) ≡ (a ⊞ c) ⊞ (b ⊞ d)
+  unfolding ◌⊞◌
+  add_swap_mat a b c d = Mat-eq _ _ (λ i j. add_swap q (a.at i j) (b.at i j) (c.at i j) (d.at i j))
 
   pub add_zeros : (a : Mat q m n) → a ⊞ zeros q m n ≡ a
   unfolding ◌⊞◌ zeros

@@ -5,7 +5,7 @@ use Rattle.linear_algebra.specs.Field.{Gf, order, add, mul, inv}
 use Rattle.linear_algebra.specs.FieldLaws.{zero_add, mul_below, mul_comm, mul_inv, inv_below}
 use Rattle.linear_algebra.specs.Sums.{sum-suc, sum-none}
 use Rattle.linear_algebra.specs.Rank.{HasInverse}
-use Rattle.linear_algebra.specs.Matrix.{Mat, Row, Column, Mat-eq, Mat-eq_below, made, reshape, zeros, delta-same, one, ◌·◌, transpose, stack, beside}
+use Rattle.linear_algebra.specs.Matrix.{Mat, Row, Column, Mat-eq, Mat-eq_below, made, reshape, zeros, delta-same, one, ◌⊙◌, ◌·◌, transpose, stack, beside}
 use Rattle.linear_algebra.specs.Parts.{row, column, unit, unit_column, scalar, upper, lower, left_part, right_part}
 use Rattle.linear_algebra.proofs.MatrixLaws.{one-at, one_mul_mat, mul_one_mat, transpose_mul, transpose_one, transpose_transpose}
 use Rattle.linear_algebra.proofs.Blocks.{join_cases, join-first, join-shifted, transpose_stack, transpose_beside}
@@ -104,6 +104,11 @@ scalar-at q c = made-at q 1 1 (λ i j. c) 0 0 (omega arith) (omega arith)
 pub product_1 : {q : Gf} (a b : Mat q 1 1) → (a · b).at 0 0 ≡ mul q (a.at 0 0) (b.at 0 0)
 unfolding ◌·◌
 product_1 {q} a b = sum-suc q 0 (λ t. mul q (a.at 0 t) (b.at t 0)) ∙ ap (λ s. add q s (mul q (a.at 0 0) (b.at 0 0))) (sum-none q _) ∙ zero_add q (mul q (a.at 0 0) (b.at 0 0)) (mul_below q (a.at 0 0) (b.at 0 0))
+
+-- a matrix of one entry times a row
+pub scalar_mul : {q : Gf} {n : ℕ} (a : Mat q 1 1) (y : Row q n) → a · y ≡ a.at 0 0 ⊙ y
+unfolding ◌·◌ ◌⊙◌
+scalar_mul {q} a y = Row-eq _ _ (λ j h. sum-suc q 0 (λ t. mul q (a.at 0 t) (y.at t j)) ∙ ap (λ s. add q s (mul q (a.at 0 0) (y.at 0 j))) (sum-none q _) ∙ zero_add q (mul q (a.at 0 0) (y.at 0 j)) (mul_below q (a.at 0 0) (y.at 0 j)))
 
 pub commute_1 : {q : Gf} (a b : Mat q 1 1) → a · b ≡ b · a
 commute_1 {q} a b = Mat_1-eq _ _ (product_1 a b ∙ mul_comm q (a.at 0 0) (b.at 0 0) ∙ sym (product_1 b a))

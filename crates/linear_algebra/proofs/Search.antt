@@ -23,7 +23,7 @@ first_or_all (suc n) P Q d = go (first_or_all n P Q d) (d n)
     go (inr a) (inl p) = inl (n, omega arith, p, a)
     go (inr a) (inr r) = inr (λ i h. elim (cases_lt i n) [ inl l ↦ a i l | inr l ↦ let same : n ≡ i = omega arith in subst Q same r ])
 
-zero_or_not : (a : ℕ) → (a ≢ zero) ⊎ (a ≡ zero)
+pub zero_or_not : (a : ℕ) → (a ≢ zero) ⊎ (a ≡ zero)
 zero_or_not a = elim (cases_eq a zero) [ inl e ↦ inr e | inr n ↦ inl n ]
 
 -- A function has a first nonzero value below n, or is zero there.

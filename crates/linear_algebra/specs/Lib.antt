@@ -1,3 +1,4 @@
+pub mod Families
 pub mod Field
 pub mod FieldLaws
 pub mod FieldTables
