@@ -3,12 +3,12 @@
 use Rattle.std.proofs.Common.{ℕ, ◌+◌, ◌≤◌, ◌≡◌, inl, inr, sym, ap, ◌∙◌, arith, le_antisymm}
 use Rattle.linear_algebra.specs.Field.{Gf}
 use Rattle.linear_algebra.specs.Matrix.{Mat, Row, Column, zeros, one, ◌⊞◌, ◌⊟◌, ◌·◌, transpose, stack, beside}
-use Rattle.linear_algebra.specs.Rank.{RankFactorisation, Complement}
-use Rattle.linear_algebra.proofs.MatrixLaws.{mul_assoc_mat, sub_eq_zeros, sub_add_mat, mul_zeros, zeros_mul, add_comm_mat, transpose_mul, transpose_one}
+use Rattle.linear_algebra.specs.Rank.{IsInSpan, RankFactorisation, Complement}
+use Rattle.linear_algebra.proofs.MatrixLaws.{zeros_add, mul_one_mat, add_zeros, mul_add_mat, mul_assoc_mat, sub_eq_zeros, sub_add_mat, mul_zeros, zeros_mul, add_comm_mat, transpose_mul, transpose_one}
 use Rattle.linear_algebra.proofs.Blocks.{one_blocks}
 use Rattle.linear_algebra.proofs.Products.{products, sums, blocks, pull}
 use Rattle.linear_algebra.proofs.RankExists.{rank_factorisation}
-use Rattle.linear_algebra.proofs.Solving.{kernel_rows, kernel_rows_kill, left_f, f_right, span_test, f_span_test, seen_or_zeros}
+use Rattle.linear_algebra.proofs.Solving.{into_zeros, kernel_rows, kernel_rows_kill, left_f, f_right, span_test, f_span_test, seen_or_zeros}
 use Rattle.linear_algebra.proofs.Steinitz.{steinitz}
 
 -- A one-sided inverse of a square matrix is two-sided.
@@ -188,3 +188,23 @@ pub complement : {q : Gf} {m n : ℕ} (f : Mat q m n) → Complement f
 complement f =
     let F = rank_factorisation f in
     completed f F (rank_factorisation (kernel_rows F)) (rank_factorisation (span_test F))
+
+-- The kernel rows span all rows that f takes to zero; a row that the cokernel takes to zero is in the span of f.
+module _ {q : Gf} {m n k : ℕ} (f : Mat q m n) (C : Complement f) where
+  pub kernel_spans : (x : Mat q k m) → x · f ≡ zeros q k n → IsInSpan C.kernel x
+  kernel_spans x e = record {
+    by = x · C.retraction;
+    is = mul_assoc_mat x C.retraction C.kernel
+        ∙ sym (add_zeros (x · (C.retraction · C.kernel)))
+        ∙ ap (λ z. x · (C.retraction · C.kernel) ⊞ z) (sym (ap (λ z. z · C.rank.left) (into_zeros C.rank x e) ∙ zeros_mul C.rank.left) ∙ mul_assoc_mat x C.rank.into C.rank.left)
+        ∙ sym (mul_add_mat x (C.retraction · C.kernel) (C.rank.into · C.rank.left)) ∙ ap (λ z. x · z) C.rows_split ∙ mul_one_mat x;
+  }
+
+  pub cokernel_spans : (x : Mat q k n) → x · C.cokernel ≡ zeros q k C.corank → IsInSpan f x
+  cokernel_spans x e = record {
+    by = x · (C.rank.right · C.rank.left);
+    is = simp (products, left_f C.rank)
+        (sym (zeros_add (x · (C.rank.right · C.rank.basis)))
+        ∙ ap (λ z. z ⊞ x · (C.rank.right · C.rank.basis)) (sym (ap (λ z. z · C.section) e ∙ zeros_mul C.section) ∙ mul_assoc_mat x C.cokernel C.section)
+        ∙ sym (mul_add_mat x (C.cokernel · C.section) (C.rank.right · C.rank.basis)) ∙ ap (λ z. x · z) C.columns_split ∙ mul_one_mat x);
+  }

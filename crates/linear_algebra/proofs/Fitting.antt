@@ -3,9 +3,9 @@
 -- chapter I, section 4.)
 use Rattle.std.proofs.Common.{ℕ, zero, suc, ◌+◌, ◌-◌, ◌≤◌, ◌≡◌, ◌⊎◌, inl, inr, sym, ap, ◌∙◌, arith, subst}
 use Rattle.linear_algebra.specs.Field.{Gf}
-use Rattle.linear_algebra.specs.Matrix.{Mat, Row, zeros, ◌⊞◌, ◌⊟◌, ◌·◌, transpose, stack}
+use Rattle.linear_algebra.specs.Matrix.{Mat, Row, zeros, ◌⊟◌, ◌·◌, transpose, stack}
 use Rattle.linear_algebra.specs.Rank.{IsInSpan, IsInColumnSpan, HasInverse, Complement}
-use Rattle.linear_algebra.specs.Powers.{mat_power, IsNilpotent}
+use Rattle.linear_algebra.specs.Powers.{mat_power, IsNilpotent, FittingParts}
 use Rattle.linear_algebra.proofs.MatrixLaws.{mul_assoc_mat, sub_add_mat, mul_zeros, zeros_mul, transpose_mul, transpose_transpose}
 use Rattle.linear_algebra.proofs.Products.{products, sums}
 use Rattle.linear_algebra.proofs.Solving.{left_f, in_span_self, in_span_trans, in_span_image, right_inverse_injective}
@@ -64,13 +64,6 @@ powers_settle_columns x e j h =
       is = ap (λ z. z · transpose s.by) (sym (transpose_transpose (mat_power x (e + j))) ∙ ap transpose (transpose_power x (e + j)))
           ∙ sym (transpose_mul s.by (mat_power (transpose x) (e + j))) ∙ ap transpose (s.is ∙ sym (transpose_power x e)) ∙ transpose_transpose (mat_power x e);
     }
-
--- A row split into one that the power e of x takes to zero and one in the image of that power.
-pub record FittingParts {q : Gf} {k d : ℕ} (x : Mat q d d) (e : ℕ) (y : Mat q k d) : Type 0 where
-  pub nilpotent_part : Mat q k d
-  pub source : Mat q k d
-  pub sum : nilpotent_part ⊞ source · mat_power x e ≡ y
-  pub vanishes : nilpotent_part · mat_power x e ≡ zeros q k d
 
 module _ {q : Gf} {d : ℕ} (x : Mat q d d) (e : ℕ) (large : d ≤ e) where
   pub fitting : {k : ℕ} (y : Mat q k d) → FittingParts x e y

@@ -2,6 +2,7 @@ pub mod Blocks
 pub mod Dimension
 pub mod Families
 pub mod FieldAxioms
+pub mod FieldPowers
 pub mod Fitting
 pub mod Inverses
 pub mod MatrixLaws

@@ -87,6 +87,13 @@ pair : (q : Gf) (a b : ℕ) → a < order q → b < order q → IsPair q a b
 unfolding passes_pairs
 pair q a b h k = pair-of q a b (all_below-at (order q) (λ b. passes_pair q a b) (all_below-at (order q) (λ a. all_below (order q) (λ b. passes_pair q a b)) (pairs q) a h) b k)
 
+-- On elements the operations are the written ones.
+pub add_table : (q : Gf) (a b : ℕ) → a < order q → b < order q → add q a b ≡ sum_of q a b
+add_table q a b h k = (pair q a b h k).sum
+
+pub mul_table : (q : Gf) (a b : ℕ) → a < order q → b < order q → mul q a b ≡ product_of q a b
+mul_table q a b h k = (pair q a b h k).product
+
 record IsTriple (q : Gf) (a b c : ℕ) : Type 0 where
   sums : sum_of q (sum_of q a b) c ≡ sum_of q a (sum_of q b c)
   products : product_of q (product_of q a b) c ≡ product_of q a (product_of q b c)

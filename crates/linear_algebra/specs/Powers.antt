@@ -17,3 +17,10 @@ geometric x (suc k) = geometric x k ⊞ mat_power x k
 pub record IsNilpotent {q : Gf} {n : ℕ} (x : Mat q n n) : Type 0 where
   pub exponent : ℕ
   pub vanishes : mat_power x exponent ≡ zeros q n n
+
+-- Rows split into some that the power e of x takes to zero and some in the image of that power.
+pub record FittingParts {q : Gf} {k d : ℕ} (x : Mat q d d) (e : ℕ) (y : Mat q k d) : Type 0 where
+  pub nilpotent_part : Mat q k d
+  pub source : Mat q k d
+  pub sum : nilpotent_part ⊞ source · mat_power x e ≡ y
+  pub vanishes : nilpotent_part · mat_power x e ≡ zeros q k d

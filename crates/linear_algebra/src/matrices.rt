@@ -1,0 +1,71 @@
+//! The main theorems on matrices over a field of the table.
+
+ghost use Rattle.std.specs.Prelude.{◌≡◌, ◌⊎◌, ℕ, ◌<◌, ◌≤◌};
+ghost use Rattle.linear_algebra.specs.Field.{Gf};
+ghost use Rattle.linear_algebra.specs.Matrix.{Mat, Row, Column, zeros, one, ◌·◌, stack};
+ghost use Rattle.linear_algebra.specs.Rank.{RankFactorisation, Complement, IsInSpan, IsSeparate, IsInColumnSpan, HasRightInverse, HasLeftInverse, HasInverse, IsInjective, IsSurjective, IsDependent};
+ghost use Rattle.linear_algebra.specs.Powers.{mat_power, IsNilpotent, FittingParts};
+ghost use Rattle.linear_algebra.specs.Families.{IsCombination, HasFixedRow, ordered_product};
+
+/// Each matrix has a rank factorisation, and the rank is the same in all of them. It is at most the number of rows and
+/// at most the number of columns.
+pub fn rank()
+    ensures exists { (q : Gf) (m n : ℕ) (f : Mat q m n) → RankFactorisation f }
+    ensures unique { (q : Gf) (m n : ℕ) (f : Mat q m n) (a b : RankFactorisation f) → a.size ≡ b.size }
+    ensures at_most_rows { (q : Gf) (m n : ℕ) (f : Mat q m n) (a : RankFactorisation f) → a.size ≤ m }
+    ensures at_most_columns { (q : Gf) (m n : ℕ) (f : Mat q m n) (a : RankFactorisation f) → a.size ≤ n }
+{}
+
+/// Kernel and cokernel: the rows that f takes to zero are the combinations of the rows of `kernel`, and a row is in the span
+/// of f exactly where `cokernel` takes it to zero; rank and nullity add to the number of rows.
+pub fn kernel_and_cokernel()
+    ensures exist { (q : Gf) (m n : ℕ) (f : Mat q m n) → Complement f }
+    ensures kernel { (q : Gf) (m n : ℕ) (f : Mat q m n) (c : Complement f) (x : Row q m) → x · f ≡ zeros q 1 n → IsInSpan c.kernel x }
+    ensures cokernel { (q : Gf) (m n : ℕ) (f : Mat q m n) (c : Complement f) (y : Row q n) → y · c.cokernel ≡ zeros q 1 c.corank → IsInSpan f y }
+{}
+
+/// A linear equation x · f = y has a solution, or there is a column that is 0 on the rows of f and 1 on y; never both.
+pub fn solvable_or_separated()
+    ensures one { (q : Gf) (m n : ℕ) (f : Mat q m n) (y : Row q n) → IsInSpan f y ⊎ IsSeparate f y }
+    ensures not_both { (q : Gf) (m n : ℕ) (f : Mat q m n) (y : Row q n) → IsSeparate f y → IsInSpan f y → ⊥ }
+{}
+
+/// What is zero on the kernel of f factors through f: where x · b = 0 for each row x with x · f = 0, there is c with f · c = b.
+pub fn factors_through()
+    ensures { (q : Gf) (m n k : ℕ) (f : Mat q m n) (b : Mat q m k) → ((x : Row q m) → x · f ≡ zeros q 1 n → x · b ≡ zeros q 1 k) → IsInColumnSpan f b }
+{}
+
+/// Injective matrices are those with a right inverse, surjective matrices those with a left inverse.
+pub fn one_sided_inverses()
+    ensures injective { (q : Gf) (m n : ℕ) (f : Mat q m n) → IsInjective f → HasRightInverse f }
+    ensures undone_on_the_right { (q : Gf) (m n : ℕ) (f : Mat q m n) → HasRightInverse f → IsInjective f }
+    ensures surjective { (q : Gf) (m n : ℕ) (f : Mat q m n) → IsSurjective f → HasLeftInverse f }
+    ensures undone_on_the_left { (q : Gf) (m n : ℕ) (f : Mat q m n) → HasLeftInverse f → IsSurjective f }
+{}
+
+/// Independent rows are not more than their length (Steinitz), and more rows than their length are dependent.
+pub fn independent_rows()
+    ensures at_most { (q : Gf) (m n : ℕ) (f : Mat q m n) → HasRightInverse f → m ≤ n }
+    ensures dependent { (q : Gf) (m n : ℕ) (f : Mat q m n) → n < m → IsDependent f }
+{}
+
+/// A one-sided inverse of a square matrix is two-sided.
+pub fn square_inverse()
+    ensures { (q : Gf) (n : ℕ) (f g : Mat q n n) → f · g ≡ one q n → g · f ≡ one q n }
+{}
+
+/// Fitting's lemma for a square matrix x of size d and an exponent e of at least d: each row is a sum of one that x^e takes
+/// to zero and one in the image of x^e; bases of the two spaces are together a basis; and x^e is zero if x is nilpotent.
+/// (Assem, Simson, Skowroński, volume 1, chapter I, section 4.)
+pub fn fitting()
+    ensures parts { (q : Gf) (d e : ℕ) (x : Mat q d d) → d ≤ e → (y : Row q d) → FittingParts x e y }
+    ensures basis { (q : Gf) (d e : ℕ) (x : Mat q d d) → d ≤ e → (c : Complement (mat_power x e)) → HasInverse (stack c.kernel c.rank.basis) }
+    ensures nilpotent { (q : Gf) (d e : ℕ) (x : Mat q d d) → d ≤ e → IsNilpotent x → mat_power x e ≡ zeros q d d }
+{}
+
+/// A family of square matrices of size d whose products of two members are combinations of the family: either every product
+/// of d combinations is zero, or some combination fixes a row that is not zero.
+pub fn nilpotent_or_fixed()
+    ensures { (q : Gf) (d s : ℕ) (g : ℕ → Mat q d d) → ((i j : ℕ) → i < s → j < s → IsCombination s g (g i · g j))
+        → ((h : ℕ → Mat q d d) → ((i : ℕ) → i < d → IsCombination s g (h i)) → ordered_product h d ≡ zeros q d d) ⊎ HasFixedRow s g }
+{}
