@@ -1,0 +1,8 @@
+mod CountingSteps
+mod ListingSteps
+pub mod ListLemmas
+pub mod PathCountLemmas
+pub mod PathLemmas
+pub mod PathListLemmas
+pub mod PathOrderLemmas
+pub mod QuiverLemmas
