@@ -1,0 +1,5 @@
+pub mod Cutting
+pub mod Readings
+pub mod Digits
+pub mod FormLaws
+pub mod StrictLaws
