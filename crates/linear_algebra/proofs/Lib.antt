@@ -1,3 +1,4 @@
+pub mod BlockFamilies
 pub mod Blocks
 pub mod Dimension
 pub mod Families
@@ -5,6 +6,7 @@ pub mod FieldAxioms
 pub mod FieldPowers
 pub mod Fitting
 pub mod Inverses
+pub mod LinearMaps
 pub mod MatrixLaws
 pub mod NilOrFixed
 pub mod PartsLaws
@@ -19,3 +21,4 @@ pub mod Search
 pub mod Solving
 pub mod Steinitz
 pub mod Subspaces
+pub mod Typed

@@ -181,3 +181,11 @@ unit_unit q n i h =
     Mat_1-eq _ _ (
     ap (λ (z : Mat q 1 1). z.at 0 0) (mul_unit_column (unit q n i) i) ∙ column-at i (unit q n i) 0
     ∙ unit-at q n i i ∙ one-at q n i i h ∙ delta-same i ∙ sym (one_1-at q))
+
+pub left_part-at : {q : Gf} {m : ℕ} (k n : ℕ) (a : Mat q m (k + n)) (i j : ℕ) → j < k → (left_part k n a).at i j ≡ a.at i j
+unfolding left_part upper transpose
+left_part-at k n a i j h = cond-true (ltb j k) (a.at i j) zero (lt-ltb j k h)
+
+pub right_part-at : {q : Gf} {m : ℕ} (k n : ℕ) (a : Mat q m (k + n)) (i j : ℕ) → (right_part k n a).at i j ≡ a.at i (k + j)
+unfolding right_part lower transpose
+right_part-at k n a i j = refl

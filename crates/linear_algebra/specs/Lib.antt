@@ -1,8 +1,10 @@
+pub mod BlockFamilies
 pub mod Families
 pub mod Field
 pub mod FieldLaws
 pub mod FieldTables
 pub mod FieldTests
+pub mod LinearMaps
 pub mod Matrix
 pub mod Parts
 pub mod Powers
@@ -10,3 +12,4 @@ pub mod Rank
 pub mod Reduced
 pub mod Rows
 pub mod Sums
+pub mod Typed
