@@ -15,6 +15,8 @@ pub mod Products
 pub mod RankExists
 pub mod Reduced
 pub mod ReducedSpans
+pub mod RowForm
+pub mod RowFormUnique
 pub mod RowSteps
 pub mod Rows
 pub mod Search

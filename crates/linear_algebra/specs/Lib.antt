@@ -10,6 +10,7 @@ pub mod Parts
 pub mod Powers
 pub mod Rank
 pub mod Reduced
+pub mod RowForm
 pub mod Rows
 pub mod Sums
 pub mod Typed
