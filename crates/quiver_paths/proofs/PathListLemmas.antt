@@ -1,8 +1,9 @@
 -- The list of all paths below a length: it has each path once, in ascending order.
-use Rattle.std.proofs.Common.{ℕ, zero, suc, ◌≡◌, ◌<◌, List, [], ◌++◌, map, filter, eqb, refl, sym, ◌∙◌, inl, inr, arith, subst}
+use Rattle.std.proofs.Common.{ℕ, zero, suc, ◌+◌, ◌≡◌, ◌<◌, List, [], ◌++◌, length, map, filter, get_or, eqb, refl, sym, ◌∙◌, inl, inr, arith, subst}
 use Rattle.std.specs.Prelude.{Contains}
 use Rattle.std.specs.List.{flat_map, range_with_len}
-use Rattle.std.proofs.lemmas.Bool.{eqb-true, eq-eqb, cases_lt}
+use Rattle.std.proofs.lemmas.Bool.{eqb-true, eq-eqb, cases_lt, cases_order}
+use Rattle.std.proofs.lemmas.List.{get_or_default}
 use Rattle.std.proofs.lemmas.List.Elements.{Contains-append_left, Contains-append_right, Contains-append_cases}
 use Rattle.quiver_paths.specs.declared.Quiver.{Quiver}
 use Rattle.quiver_paths.specs.declared.Path.{Path}
@@ -13,7 +14,7 @@ use Rattle.quiver_paths.specs.PathOrder.{IsSmaller, IsAscending, by_arrows, by_s
 use Rattle.quiver_paths.specs.PathList.{behind_arrow, paths_of_length, paths_below, ListsPathsBelow}
 use Rattle.quiver_paths.proofs.ListLemmas.{Contains-map, Contains-from_map, Contains-filter, Contains-from_filter, Contains-flat_map, Contains-from_flat_map, Contains-range, Contains-from_range, Contains-nil, AllPairs-nil, AllPairs-append, AllPairs-map, AllPairs-members, AllPairs-sieve, AllPairs-flat_map, AllPairs-range, ascending_once}
 use Rattle.quiver_paths.proofs.PathLemmas.{IsPath-trivial, IsPath-arrow, IsPath-concat, path_length-concat, trivial_from_length, begins_with_arrow, length-arrow_then}
-use Rattle.quiver_paths.proofs.PathOrderLemmas.{smaller_from_comes_before, IsSmaller-from_shorter, IsSmaller-concat_left, IsSmaller-irreflexive, IsSmaller-asymmetric}
+use Rattle.quiver_paths.proofs.PathOrderLemmas.{smaller_from_comes_before, IsSmaller-from_shorter, IsSmaller-concat_left, IsSmaller-irreflexive, length_of_smaller, IsSmaller-asymmetric}
 
 -- ---- the paths of one length
 
@@ -167,3 +168,49 @@ lists_paths_once Q t ps qs h g =
     ascending_once IsSmaller IsSmaller-irreflexive IsSmaller-asymmetric ps qs h.ascending g.ascending
     (λ p m. let is = h.only p m in g.all p is.0 is.1)
     (λ p m. let is = g.only p m in h.all p is.0 is.1)
+
+-- ---- places in the list, and induction along the order
+
+-- a smaller path stands at a smaller place
+pub smaller_places : (ps : List Path) → IsAscending ps → (i j : ℕ) (d : Path) → i < length ps → j < length ps → IsSmaller (get_or ps i d) (get_or ps j d) → i < j
+smaller_places ps h i j d li lj s =
+    elim (cases_order i j) [
+      | inl e ↦ absurd (IsSmaller-irreflexive (get_or ps i d) (subst (λ k. IsSmaller (get_or ps i d) (get_or ps k d)) (sym e) s))
+      | inr either ↦
+          elim either [
+            | inl below ↦ below
+            | inr above ↦ absurd (IsSmaller-asymmetric (get_or ps i d) (get_or ps j d) s (h j i d above li))
+          ]
+    ]
+
+-- the same of members
+smaller_members : (ps : List Path) → IsAscending ps → (p q : Path) (m : Contains ps p) (n : Contains ps q) → IsSmaller p q → m.0 < n.0
+smaller_members ps h p q m n s =
+    let first : get_or ps m.0 q ≡ p = get_or_default ps m.0 q p m.1 ∙ m.2 in
+    smaller_places ps h m.0 n.0 q m.1 n.1 (subst (λ x. IsSmaller x (get_or ps n.0 q)) (sym first) (subst (λ x. IsSmaller p x) (sym n.2) s))
+
+-- what holds of a path of a quiver whenever it holds of all smaller ones holds of each
+pub smaller_induction : (Q : Quiver) → HasEnds Q → (P : Path → Type 0) → ((p : Path) → IsPath Q p → ((q : Path) → IsPath Q q → IsSmaller q p → P q) → P p) → (p : Path) → IsPath Q p → P p
+smaller_induction Q e P step p h = by (m.0 + 1) p m (omega arith)
+  where
+    t : ℕ
+    t = path_length p + 1
+
+    ps : List Path
+    ps = paths_below Q t
+
+    lists : ListsPathsBelow Q t ps
+    lists = lists_paths_below Q e t
+
+    m : Contains ps p
+    m = lists.all p h (omega arith)
+
+    by : (n : ℕ) (q : Path) (k : Contains ps q) → k.0 < n → P q
+    by zero q k l = absurd (omega arith)
+    by (suc n) q k l =
+        let is = lists.only q k in
+        step q is.0
+        (λ r hr s.
+        let short : path_length r < t = omega (arith, is.1, length_of_smaller r q s) in
+        let j : Contains ps r = lists.all r hr short in
+        by n r j (omega (arith, smaller_members ps lists.ascending r q j k s)))

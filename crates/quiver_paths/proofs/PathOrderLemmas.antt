@@ -1,16 +1,17 @@
 -- The order of paths: its cases, that it is a strict total order, and that it goes with concatenation.
-use Rattle.std.proofs.Common.{ℕ, ◌+◌, ◌≡◌, ◌<◌, List, [], ◌∷◌, ◌++◌, length, refl, sym, ap, ◌∙◌, ◌⊎◌, inl, inr, arith, length-append}
+use Rattle.std.proofs.Common.{ℕ, ◌+◌, ◌≡◌, ◌<◌, ◌≤◌, List, [], ◌∷◌, ◌++◌, length, refl, sym, ap, ◌∙◌, ◌⊎◌, inl, inr, arith, length-append, subst}
 use Rattle.std.specs.Cmp.{IsTotalOrder, on_total, then_total, nat_cmp_total, ranks, ranked, nat_cmp_is}
 use Rattle.std.specs.Cmp.Lexicographic.{slice_cmp, nat_list_cmp_total}
 use Rattle.std.specs.Ordering.{nat_cmp, ordering_then, ordering_reverse, MatchOrdering}
 use Rattle.std.specs.declared.cmp.Ordering.{Ordering}
 use Rattle.std.specs.declared.cmp.Ordering.TheVariants.{Less, Equal, Greater}
 use Rattle.std.proofs.lemmas.Cmp.{by_ranked, tied_itself}
+use Rattle.std.proofs.lemmas.Bool.{cases_eq, cases_lt}
 use Rattle.quiver_paths.specs.declared.Quiver.{Quiver}
 use Rattle.quiver_paths.specs.declared.Path.{Path}
 use Rattle.quiver_paths.specs.Path.{IsPath, path_length, concat, Meets}
 use Rattle.quiver_paths.specs.PathOrder.{path_cmp, IsSmaller, DiffersBelow, ComesBefore, shorter, by_arrows, by_start}
-use Rattle.quiver_paths.proofs.PathLemmas.{IsPath-same}
+use Rattle.quiver_paths.proofs.PathLemmas.{same_path, IsPath-same}
 
 -- ---- comparisons of numbers and of lists
 
@@ -173,6 +174,32 @@ IsSmaller-asymmetric p q h g = IsSmaller-irreflexive p (IsSmaller-trans p q p h 
 
 pub length-smaller : (p q : Path) → IsSmaller p q → path_length q < path_length p → ⊥
 length-smaller p q h g = IsSmaller-asymmetric p q h (IsSmaller-from_shorter q p g)
+
+pub length_of_smaller : (p q : Path) → IsSmaller p q → path_length p ≤ path_length q
+length_of_smaller p q h =
+    elim (cases_lt (path_length q) (path_length p)) [ inl longer ↦ absurd (length-smaller p q h longer) | inr fits ↦ fits ]
+
+pub cases_smaller : (p q : Path) → IsSmaller p q ⊎ (IsSmaller p q → ⊥)
+cases_smaller p q = by (path_cmp p q) refl
+  where
+    by : (o : Ordering) → path_cmp p q ≡ o → IsSmaller p q ⊎ (IsSmaller p q → ⊥)
+    by Less e = inl e
+    by Equal e = inr (λ h. absurd (cc))
+    by Greater e = inr (λ h. absurd (cc))
+
+-- two paths are equal or not
+pub cases_path : (p q : Path) → (p ≡ q) ⊎ (p ≡ q → ⊥)
+cases_path p q = by (path_cmp p q) refl
+  where
+    by : (o : Ordering) → path_cmp p q ≡ o → (p ≡ q) ⊎ (p ≡ q → ⊥)
+    by Less e = inr (λ s. IsSmaller-irreflexive q (subst (λ (x : Path). IsSmaller x q) s e))
+    by Equal e =
+        let same = path_cmp-Equal p q e in
+        elim (cases_eq p.end q.end) [
+          | inl ends ↦ inl (same_path p q same.1 ends same.0)
+          | inr other ↦ inr (λ s. other (ap (λ (x : Path). x.end) s))
+        ]
+    by Greater e = inr (λ s. IsSmaller-irreflexive q (subst (λ (x : Path). IsSmaller q x) s (IsSmaller-from_greater p q e)))
 
 -- ---- the order and concatenation
 

@@ -16,6 +16,7 @@ pub fn concat(
 ) -> Result<Option<Path>, AllocError>
     requires { path_length a.now + path_length b.now ≤ 64 }
     ensures meets { IfOk result (λ joined. IsSome joined ↔ Meets a.now b.now) }
+    ensures none { (Meets a.now b.now → ⊥) → result ≡ Ok None }
     ensures value { IfOk result (λ joined. IfSome joined (λ p. p ≡ concat a.now b.now)) }
     ensures path { IsPath quiver.now a.now → IsPath quiver.now b.now → IfOk result (λ joined. IfSome joined (IsPath quiver.now)) }
 {

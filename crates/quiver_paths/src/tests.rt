@@ -5,6 +5,7 @@ ghost use Rattle.quiver_paths.specs.Quiver.{IsQuiver};
 use super::*;
 use std::alloc::Global;
 use std::cmp::Ordering;
+use std::collections::HashSet;
 use std::test::Fail;
 
 fn crosses<T: Send + Sync>(_value: &T) {}
@@ -52,6 +53,15 @@ fn two_loops(alloc: Global) -> Result<Quiver, Fail>
     arrows.push(arrow("x", 0, 0)?)?;
     arrows.push(arrow("y", 0, 0)?)?;
     Ok(Quiver { vertices, arrows })
+}
+
+#[test]
+fn finds_names(rt: HostRuntime) -> Result<(), Fail> {
+    let mut seen: HashSet<Name> = HashSet::new(rt.alloc());
+    for (text, is_new) in [("x", true), ("y", true), ("x", false), ("xy", true)] {
+        assert_eq!(rt; seen.insert(name(text)?)?, is_new, "{text}");
+    }
+    Ok(())
 }
 
 #[test]
