@@ -46,6 +46,9 @@ AreApart-rows n a b c k ne h = record {
   apart = λ i j p r e. ne ((same_from_place a (c + i) b (c + j) n (omega arith) (omega arith) (omega arith)).0);
 }
 
+pub AreApart-whole_rows : (n a b : ℕ) → a ≢ b → AreApart (a * n) (b * n) n
+AreApart-whole_rows n a b ne = record { apart = λ i j p r e. ne ((same_from_place a i b j n p r e).0) }
+
 -- the rows of a slice of elements are a matrix over the field
 pub IsGrid-rows_of : (q : Gf) (m n : ℕ) (s : List ℕ) → AreElements q s → IsGrid q m n (rows_of m n s)
 IsGrid-rows_of q m n s h = record {

@@ -1,7 +1,10 @@
+pub mod BlockLoops
 pub mod Cells
 pub mod Elimination
 pub mod Fields
+pub mod KernelOf
 pub mod Matrices
+pub mod Products
 pub mod Result
 pub mod RowLoops
 pub mod Slices

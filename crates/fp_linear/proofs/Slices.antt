@@ -1,9 +1,9 @@
 -- What a loop that writes a part of a slice keeps.
-use Rattle.std.proofs.Common.{ℕ, ◌<◌, ◌≡◌, ◌≢◌, inl, inr, ◌+◌, ◌-◌, List, length, get_or, set, refl, sym, ap, ◌∙◌, arith, get_or-set_same, get_or-set_other}
-use Rattle.std.proofs.lemmas.List.{set_past}
+use Rattle.std.proofs.Common.{ℕ, ◌<◌, ◌≡◌, ◌≢◌, inl, inr, ◌+◌, ◌-◌, List, length, get_or, set, replicate, refl, sym, ap, ◌∙◌, arith, get_or-set_same, get_or-set_other}
+use Rattle.std.proofs.lemmas.List.{set_past, get_or-replicate, length-replicate, get_or_past}
 use Rattle.std.proofs.lemmas.Bool.{cases_lt, cases_eq}
 use Rattle.linear_algebra.specs.Field.{Gf, order, add, mul}
-use Rattle.linear_algebra.specs.FieldLaws.{add_below}
+use Rattle.linear_algebra.specs.FieldLaws.{add_below, order-pos}
 use Rattle.fp_linear.specs.Slices.{AreElements, IsWritten, AreApart, added}
 
 pub IsWritten-none : (s : List ℕ) (at : ℕ) (g : ℕ → ℕ) → IsWritten s s at 0 g
@@ -56,3 +56,11 @@ IsWritten-added q factor source target count j old new v w a h l e =
 
 pub AreElements-added : (q : Gf) (s : List ℕ) (i v a b : ℕ) → AreElements q s → v ≡ add q a b → AreElements q (set s i v)
 AreElements-added q s i v a b h e = AreElements-set q s i v h (rw e (add_below q a b))
+
+pub AreElements-zeros : (q : Gf) (n : ℕ) (s : List ℕ) → s ≡ replicate n 0 → AreElements q s
+AreElements-zeros q n s e = record {
+  small = λ k. elim (cases_lt k n) [
+    | inl l ↦ rw (e, get_or-replicate {A = ℕ} n k 0 0 l) (order-pos q)
+    | inr l ↦ rw (e, get_or_past {X = ℕ} (replicate n 0) k 0 (let c = length-replicate {A = ℕ} n 0 in omega arith)) (order-pos q)
+  ];
+}

@@ -32,3 +32,7 @@ pub record IsRowOfProducts (q : Gf) (factor : ℕ) (s : List ℕ) : Type 0 where
 -- `factor` times what stands at target + j
 abbrev pub scaled : Gf → ℕ → ℕ → List ℕ → ℕ → ℕ
 scaled q factor target s j = mul q factor (slice_index s (target + j))
+
+-- what stands at from + j
+abbrev pub copied : ℕ → List ℕ → ℕ → ℕ
+copied from s j = slice_index s (from + j)

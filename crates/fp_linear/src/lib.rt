@@ -2,14 +2,17 @@
 #![tactic(auto)]
 
 mod add;
+mod blocks;
 mod echelon;
 mod field;
 mod matrix;
+mod scratch;
 mod tables;
 
 pub use echelon::echelon_rows;
 pub use field::Field;
 pub use matrix::{Matrix, echelon_in_place};
+pub use scratch::Scratch;
 
 #[cfg(test)]
 mod tests;

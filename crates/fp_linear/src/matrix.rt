@@ -6,6 +6,9 @@ ghost use Rattle.linear_algebra.specs.Reduced.{ReducesTo};
 ghost use Rattle.fp_linear.specs.Slices.{AreElements};
 ghost use Rattle.fp_linear.specs.Matrix.{PlainMatrix, plain, IsMatrix, most_entries, zero_rows};
 
+mod arithmetic;
+mod kernel;
+
 use crate::echelon::echelon_rows;
 use crate::field::Field;
 use std::alloc::{AllocError, Global};

@@ -6,6 +6,7 @@ pub mod FieldAxioms
 pub mod FieldPowers
 pub mod Fitting
 pub mod Inverses
+pub mod KernelRows
 pub mod LinearMaps
 pub mod MatrixLaws
 pub mod NilOrFixed

@@ -7,7 +7,7 @@ use Rattle.linear_algebra.specs.Field.{Gf}
 use Rattle.linear_algebra.specs.FieldLaws.{order-pos, zero_mul}
 use Rattle.linear_algebra.specs.Sums.{sum-zeros}
 use Rattle.linear_algebra.specs.Rows.{entry, IsGrid, zeros, IsInSpan, SameSpan}
-use Rattle.linear_algebra.specs.Reduced.{leading, pivot, IsReduced, pivots_of}
+use Rattle.linear_algebra.specs.Reduced.{leading, pivot, IsReduced, pivots_of, ReducesTo}
 use Rattle.linear_algebra.proofs.Rows.{entry_past, length-list_of, get_or-list_of, row-entry, times-is, SameSpan-from_rows, IsInSpan-row}
 
 -- the first nonzero entry
@@ -135,3 +135,10 @@ SameSpan-take q m n r rows g h z =
     (λ i l. let e = length-take-le r rows (let c = g.count in omega arith) in
     let k : i < r = omega arith in
     let s = IsInSpan-row q m n rows i g (omega arith) in (s.0, s.1 ∙ sym (get_or-take r rows i [] k)))
+
+-- the pivot columns that elimination tells
+pub pivot-column : (q : Gf) (n : ℕ) (old new : List (List ℕ)) (pivots : List ℕ) (rank i : ℕ) → ReducesTo q n old new pivots rank → i < rank → get_or pivots i 0 ≡ pivot (take rank new) i
+unfolding pivots_of
+pivot-column q n old new pivots rank i h l =
+    sym (get_or-take rank pivots i 0 l) ∙ ap (λ p. get_or p i 0) h.columns
+    ∙ get_or-map leading (take rank new) i [] 0 (let e = length-take-le rank new h.fits in omega arith)

@@ -4,6 +4,7 @@ pub mod Field
 pub mod FieldLaws
 pub mod FieldTables
 pub mod FieldTests
+pub mod Kernels
 pub mod LinearMaps
 pub mod Matrix
 pub mod Parts
