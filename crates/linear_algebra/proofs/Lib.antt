@@ -22,6 +22,7 @@ pub mod RowSteps
 pub mod Rows
 pub mod Search
 pub mod Solving
+pub mod SpanPush
 pub mod Steinitz
 pub mod Subspaces
 pub mod Typed
