@@ -1,5 +1,7 @@
 pub mod BlockFamilies
 pub mod Blocks
+pub mod CoReduced
+pub mod CoReducedUnique
 pub mod Dimension
 pub mod Families
 pub mod FieldAxioms

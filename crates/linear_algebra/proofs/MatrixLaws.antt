@@ -1,8 +1,8 @@
 -- The laws of sums, multiples, products and transposes of matrices. Each is proved by entries, and cited without them.
 use Rattle.std.proofs.Common.{ℕ, zero, ◌<◌, ◌≡◌, refl, sym, ap, ap₂, ◌∙◌, inl, inr, ltb, lt-ltb, mod-eq_of_lt}
 use Rattle.std.proofs.lemmas.Bool.{cases_eq, cond-true}
-use Rattle.linear_algebra.specs.Field.{Gf, add, mul, neg}
-use Rattle.linear_algebra.specs.FieldLaws.{add_swap, add_assoc, add_comm, add_left_comm, add_zero, zero_add, add_neg, neg-add, neg_neg, neg_zero, mul_assoc, mul_comm, mul_left_comm, mul_one, one_mul, mul_zero, zero_mul, mul_add, add_mul, mul_neg, neg_mul, mod-mul}
+use Rattle.linear_algebra.specs.Field.{Gf, add, sub, mul, neg}
+use Rattle.linear_algebra.specs.FieldLaws.{sub_def, add_swap, add_assoc, add_comm, add_left_comm, add_zero, zero_add, add_neg, neg-add, neg_neg, neg_zero, mul_assoc, mul_comm, mul_left_comm, mul_one, one_mul, mul_zero, zero_mul, mul_add, add_mul, mul_neg, neg_mul, mod-mul}
 use Rattle.linear_algebra.specs.Sums.{sum_to, sum-ext, sum-zeros, sum-add, mul-sum, sum-mul, neg-sum, sum-swap, sum-single}
 use Rattle.linear_algebra.specs.Matrix.{Mat, Mat-eq, Mat-eq_below, zeros, delta, delta-same, delta-other, one, ◌⊞◌, negative, ◌⊟◌, ◌⊙◌, ◌·◌, transpose}
 
@@ -41,6 +41,10 @@ module _ {q : Gf} {m n : ℕ} where
   pub difference : (a b : Mat q m n) → a ⊟ b ≡ a ⊞ negative b
   unfolding ◌⊟◌
   difference a b = refl
+
+  pub sub-at : (a b : Mat q m n) (i j : ℕ) → (a ⊟ b).at i j ≡ sub q (a.at i j) (b.at i j)
+  unfolding ◌⊟◌ ◌⊞◌ negative
+  sub-at a b i j = sym (sub_def q (a.at i j) (b.at i j))
 
   pub negative_sum : (a b : Mat q m n) → negative (a ⊞ b) ≡ negative a ⊞ negative b
   unfolding ◌⊞◌ negative
@@ -146,6 +150,10 @@ module _ {q : Gf} {m n : ℕ} where
   pub transpose_scale : (c : ℕ) (a : Mat q m n) → transpose (c ⊙ a) ≡ c ⊙ transpose a
   unfolding transpose ◌⊙◌
   transpose_scale c a = Mat-eq _ _ (λ i j. refl)
+
+pub transpose-at : {q : Gf} {m n : ℕ} (a : Mat q m n) (i j : ℕ) → (transpose a).at i j ≡ a.at j i
+unfolding transpose
+transpose-at a i j = refl
 
 pub transpose_zeros : (q : Gf) (m n : ℕ) → transpose (zeros q m n) ≡ zeros q n m
 unfolding transpose zeros

@@ -98,18 +98,26 @@ module _ {q : Gf} {d : ℕ} (s : ℕ) (g : ℕ → Mat q d d) where
     is = mul_add_mat a m.factor (v.at 0 0 ⊙ g t) ∙ ap₂ (λ u w. u ⊞ w) m.is (mul_scale (v.at 0 0) a (g t) ∙ sym (scalar_mul v (a · g t)) ∙ e);
   }
 
+  orbit_parts : (t k : ℕ) (a y : Row q d) (A : Mat q k d) (B : Subspace q d) (first : Row q k) (second : Row q B.size) → first · A ⊞ second · B.basis ≡ y
+      → IsInSpan (a · g t) B.basis → ((z : Row q d) → IsInSpan A z → IsMultiple t a z) → IsMultiple (suc t) a y
+  orbit_parts t k a y A B first second parts b before =
+      let v = in_span_trans (a · g t) B.basis (second · B.basis) b (in_span_mul B.basis second) in
+      subst (IsMultiple (suc t) a) parts (multiple_sum t a (first · A) (second · B.basis) v.by (before (first · A) (in_span_mul A first)) v.is)
+
+  orbit_step : (t k : ℕ) (a y : Row q d) (A : Mat q k d) (B : Subspace q d) (w : Row q (k + B.size)) → w · stack A B.basis ≡ y
+      → IsInSpan (a · g t) B.basis → ((z : Row q d) → IsInSpan A z → IsMultiple t a z) → IsMultiple (suc t) a y
+  orbit_step t k a y A B w e b before =
+      orbit_parts t k a y A B (left_part k B.size w) (right_part k B.size w)
+      (sym (beside_stack (left_part k B.size w) (right_part k B.size w) A B.basis) ∙ ap (λ z. z · stack A B.basis) (beside_parts k B.size w) ∙ e) b before
+
   orbit_multiple : (t : ℕ) (a y : Row q d) → IsInSpan (sum_of_spaces t (λ i. span_of (a · g i))).basis y → IsMultiple t a y
   unfolding sum_of_spaces empty_subspace
   orbit_multiple zero a y m = record { factor = zeros q d d; in_family = combination_none g; is = mul_zeros a ∙ sym (sym m.is ∙ through_none m.by (zeros q 0 d)) }
   orbit_multiple (suc t) a y m =
-      let A = (sum_of_spaces t (λ i. span_of (a · g i))).basis in
+      let S = sum_of_spaces t (λ i. span_of (a · g i)) in
       let B = span_of (a · g t) in
-      let w = in_span_trans (stack A B.basis) _ y (span_of-spanned (stack A B.basis)) m in
-      let first = left_part _ B.size w.by in
-      let second = right_part _ B.size w.by in
-      let v = in_span_trans (a · g t) B.basis (second · B.basis) (span_of-spanned (a · g t)) (in_span_mul B.basis second) in
-      let parts : first · A ⊞ second · B.basis ≡ y = sym (beside_stack first second A B.basis) ∙ ap (λ z. z · stack A B.basis) (beside_parts _ B.size w.by) ∙ w.is in
-      subst (IsMultiple (suc t) a) parts (multiple_sum t a (first · A) (second · B.basis) v.by (orbit_multiple t a (first · A) (in_span_mul A first)) v.is)
+      let w = in_span_trans (stack S.basis B.basis) _ y (span_of-spanned (stack S.basis B.basis)) m in
+      orbit_step t S.size a y S.basis B w.by w.is (span_of-spanned (a · g t)) (λ z i. orbit_multiple t a z i)
 
   orbit-contains : (a : Row q d) (i : ℕ) → i < s → IsInSpan (orbit s g a).basis (a · g i)
   unfolding orbit

@@ -44,16 +44,16 @@ module _ {q : Gf} {m n : ℕ} (a : Mat q m n) (pivot : ℕ → ℕ) (d : IsRowRe
 
 -- A matrix whose first column is c and whose others are h, where u is a row with u · c = 1.
 module _ {q : Gf} {m : ℕ} (n : ℕ) (c : Column q m) (h : Mat q m n) (u : Row q m) (e : u · c ≡ one q 1) (G : ReducedForm (h ⊟ c · (u · h))) where
-  heads : Row q G.size
+  pub heads : Row q G.size
   heads = u · h · selector q n G.size G.pivot
 
-  tail : Row q n
+  pub tail : Row q n
   tail = u · h ⊟ heads · G.rows
 
-  new_rows : Mat q (1 + G.size) (1 + n)
+  pub new_rows : Mat q (1 + G.size) (1 + n)
   new_rows = stack (beside (one q 1) tail) (beside (zeros q G.size 1) G.rows)
 
-  new_spans : IsInSpan new_rows (beside c h)
+  pub new_spans : IsInSpan new_rows (beside c h)
   unfolding new_rows tail
   new_spans = record { by = beside c (c · heads ⊞ G.spans.by); is = simp (blocks, products, sums, G.spans.is) }
 
@@ -68,7 +68,7 @@ module _ {q : Gf} {m : ℕ} (n : ℕ) (c : Column q m) (h : Mat q m n) (u : Row 
   unfolding combining
   combining_h = simp (products) (simp (products) at G.spanned.is)
 
-  new_spanned : IsInSpan (beside c h) new_rows
+  pub new_spanned : IsInSpan (beside c h) new_rows
   unfolding new_rows tail
   new_spanned = record { by = stack (u ⊟ heads · combining) combining; is = simp (blocks, products, combining_c, combining_h, e) }
 
@@ -102,40 +102,40 @@ module _ {q : Gf} {m : ℕ} (n : ℕ) (c : Column q m) (h : Mat q m n) (u : Row 
       sym (mul_selector-at G.size tail G.pivot 0 i h (G.reduced.inside i h)) ∙ ap (λ (z : Row q G.size). z.at 0 i) tail_selected
 
   -- column 0, and the old pivots one further
-  new_pivot : ℕ → ℕ
+  unfoldable pub new_pivot : ℕ → ℕ
   new_pivot zero = 0
   new_pivot (suc i) = suc (G.pivot i)
 
-  new_inside : (i : ℕ) → i < 1 + G.size → new_pivot i < 1 + n
+  pub new_inside : (i : ℕ) → i < 1 + G.size → new_pivot i < 1 + n
   unfolding new_pivot
   new_inside zero l = omega arith
   new_inside (suc i) l = let k = G.reduced.inside i (omega arith) in omega arith
 
-  new_one : (i : ℕ) → i < 1 + G.size → new_rows.at i (new_pivot i) ≡ 1
+  pub new_one : (i : ℕ) → i < 1 + G.size → new_rows.at i (new_pivot i) ≡ 1
   unfolding new_pivot
   new_one zero l = first_first
   new_one (suc i) l = later_later i (G.pivot i) ∙ G.reduced.one i (omega arith)
 
-  new_before : (i j : ℕ) → i < 1 + G.size → j < new_pivot i → new_rows.at i j ≡ 0
+  pub new_before : (i j : ℕ) → i < 1 + G.size → j < new_pivot i → new_rows.at i j ≡ 0
   unfolding new_pivot
   new_before zero j l k = absurd (not-suc-le-zero k)
   new_before (suc i) zero l k = later_first i
   new_before (suc i) (suc j) l k = later_later i j ∙ G.reduced.before i j (omega arith) (omega arith)
 
-  new_further : (i k : ℕ) → i < k → k < 1 + G.size → new_pivot i < new_pivot k
+  pub new_further : (i k : ℕ) → i < k → k < 1 + G.size → new_pivot i < new_pivot k
   unfolding new_pivot
   new_further i zero l b = absurd (not-suc-le-zero l)
   new_further zero (suc k) l b = omega arith
   new_further (suc i) (suc k) l b = let f = G.reduced.further i k (omega arith) (omega arith) in omega arith
 
-  new_cleared : (i k : ℕ) → i < 1 + G.size → k < 1 + G.size → k ≢ i → new_rows.at k (new_pivot i) ≡ 0
+  pub new_cleared : (i k : ℕ) → i < 1 + G.size → k < 1 + G.size → k ≢ i → new_rows.at k (new_pivot i) ≡ 0
   unfolding new_pivot
   new_cleared zero zero l b d = absurd (d refl)
   new_cleared zero (suc k) l b d = later_first k
   new_cleared (suc i) zero l b d = first_later (G.pivot i) ∙ tail_cleared i (omega arith)
   new_cleared (suc i) (suc k) l b d = later_later k (G.pivot i) ∙ G.reduced.cleared i k (omega arith) (omega arith) (λ e. d (ap suc e))
 
-  with_pivot : ReducedForm (beside c h)
+  unfoldable pub with_pivot : ReducedForm (beside c h)
   with_pivot = record {
     size = 1 + G.size;
     rows = new_rows;
@@ -147,22 +147,22 @@ module _ {q : Gf} {m : ℕ} (n : ℕ) (c : Column q m) (h : Mat q m n) (u : Row 
 
 -- A zero column in front.
 module _ {q : Gf} {m : ℕ} (n : ℕ) (h : Mat q m n) (G : ReducedForm h) where
-  shifted_rows : Mat q G.size (1 + n)
+  pub shifted_rows : Mat q G.size (1 + n)
   shifted_rows = beside (zeros q G.size 1) G.rows
 
   shifted-first : (i : ℕ) → shifted_rows.at i 0 ≡ 0
   unfolding shifted_rows beside zeros
   shifted-first i = join-first 1 _ _ 0 (omega arith)
 
-  shifted-later : (i j : ℕ) → shifted_rows.at i (suc j) ≡ G.rows.at i j
+  pub shifted-later : (i j : ℕ) → shifted_rows.at i (suc j) ≡ G.rows.at i j
   unfolding shifted_rows beside
   shifted-later i j = let place : suc j ≡ 1 + j = omega arith in ap (shifted_rows.at i) place ∙ join-shifted 1 _ _ j
 
-  shifted_before : (i j : ℕ) → i < G.size → j < suc (G.pivot i) → shifted_rows.at i j ≡ 0
+  pub shifted_before : (i j : ℕ) → i < G.size → j < suc (G.pivot i) → shifted_rows.at i j ≡ 0
   shifted_before i zero l k = shifted-first i
   shifted_before i (suc j) l k = shifted-later i j ∙ G.reduced.before i j l (omega arith)
 
-  without_pivot : ReducedForm (beside (zeros q m 1) h)
+  unfoldable pub without_pivot : ReducedForm (beside (zeros q m 1) h)
   unfolding shifted_rows
   without_pivot = record {
     size = G.size;
@@ -190,7 +190,7 @@ module _ {q : Gf} {m : ℕ} (n : ℕ) (before : (f : Mat q m n) → ReducedForm 
   one_column_more : (f : Mat q m (1 + n)) → ReducedForm f
   one_column_more f = subst ReducedForm (beside_parts 1 n f) (by_first (left_part 1 n f) (right_part 1 n f) (seen_or_zeros (left_part 1 n f)))
 
-no_column : {q : Gf} {m : ℕ} (f : Mat q m 0) → ReducedForm f
+unfoldable pub no_column : {q : Gf} {m : ℕ} (f : Mat q m 0) → ReducedForm f
 no_column {q} {m} f = record {
   size = 0;
   rows = zeros q 0 0;

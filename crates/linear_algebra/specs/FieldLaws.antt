@@ -288,6 +288,12 @@ one-mod q = mod-eq_of_lt (one-lt-order q)
 pub add_zero_zero : (q : Gf) → add q 0 0 ≡ 0
 add_zero_zero q = add_zero q 0 (order-pos q)
 
+pub neg_zero : (q : Gf) → neg q 0 ≡ 0
+neg_zero q = sym (zero_add q (neg q 0) (neg_below q 0)) ∙ add_neg q 0
+
+pub sub_zero : (q : Gf) (a : ℕ) → a < order q → sub q a 0 ≡ a
+sub_zero q a h = sub_def q a 0 ∙ ap (add q a) (neg_zero q) ∙ add_zero q a h
+
 -- What is added on both sides is cancelled.
 
 pub neg_add-cancel : (q : Gf) (a b : ℕ) → add q (neg q a) (add q a b) ≡ b % order q
@@ -299,9 +305,6 @@ add_cancel q a b c e h k = sym (mod-eq_of_lt h) ∙ sym (neg_add-cancel q a b) �
 -- the negative is the only element whose sum with a is zero
 pub neg_unique : (q : Gf) (a b : ℕ) → b < order q → add q a b ≡ 0 → b ≡ neg q a
 neg_unique q a b h e = add_cancel q a b (neg q a) (e ∙ sym (add_neg q a)) h (neg_below q a)
-
-pub neg_zero : (q : Gf) → neg q 0 ≡ 0
-neg_zero q = sym (neg_unique q 0 0 (order-pos q) (add_zero_zero q))
 
 pub neg_neg : (q : Gf) (a : ℕ) → neg q (neg q a) ≡ a % order q
 neg_neg q a = sym (neg_unique q (neg q a) (a % order q) (mod_below q a) (add-mod_right q (neg q a) a ∙ neg_add_self q a))

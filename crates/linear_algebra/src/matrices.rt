@@ -1,10 +1,13 @@
 //! The main theorems on matrices over a field of the table.
 
-ghost use Rattle.std.specs.Prelude.{◌≡◌, ◌⊎◌, ℕ, ◌<◌, ◌≤◌};
+ghost use Rattle.std.specs.Prelude.{◌≡◌, ◌⊎◌, ℕ, ◌<◌, ◌≤◌, List};
 ghost use Rattle.linear_algebra.specs.Field.{Gf};
 ghost use Rattle.linear_algebra.specs.Matrix.{Mat, Row, Column, zeros, one, ◌·◌, stack};
 ghost use Rattle.linear_algebra.specs.Rank.{RankFactorisation, Complement, IsInSpan, IsSeparate, IsInColumnSpan, HasRightInverse, HasLeftInverse, HasInverse, IsInjective, IsSurjective, IsDependent};
 ghost use Rattle.linear_algebra.specs.Powers.{mat_power, IsNilpotent, FittingParts};
+ghost use Rattle.linear_algebra.specs.RowForm.{ReducedForm, IsRowReduced, CoReducedForm, IsCoReduced};
+ghost use Rattle.linear_algebra.specs.Rows.{IsGrid, SameSpan};
+ghost use Rattle.linear_algebra.specs.Reduced.{IsReduced};
 ghost use Rattle.linear_algebra.specs.Families.{IsCombination, HasFixedRow, ordered_product};
 
 /// Each matrix has a rank factorisation, and the rank is the same in all of them. It is at most the number of rows and
@@ -68,4 +71,21 @@ pub fn fitting()
 pub fn nilpotent_or_fixed()
     ensures { (q : Gf) (d s : ℕ) (g : ℕ → Mat q d d) → ((i j : ℕ) → i < s → j < s → IsCombination s g (g i · g j))
         → ((h : ℕ → Mat q d d) → ((i : ℕ) → i < d → IsCombination s g (h i)) → ordered_product h d ≡ zeros q d d) ⊎ HasFixedRow s g }
+{}
+
+/// Reduced row form: each matrix has one with the same span, and two with the same span are equal; so are two lists of rows.
+pub fn reduced_row_form()
+    ensures exists { (q : Gf) (m n : ℕ) (f : Mat q m n) → ReducedForm f }
+    ensures unique { (q : Gf) (k m n : ℕ) (a : Mat q k n) (b : Mat q m n) (p r : ℕ → ℕ) → IsRowReduced a p → IsRowReduced b r → IsInSpan b a → IsInSpan a b
+        → (k ≡ m) × ((i j : ℕ) → a.at i j ≡ b.at i j) }
+    ensures unique_list { (q : Gf) (k m n : ℕ) (a b : List (List ℕ)) → IsGrid q k n a → IsGrid q m n b → IsReduced n a → IsReduced n b → SameSpan q n a b → a ≡ b }
+{}
+
+/// Co-reduced form: the span of each matrix is what some co-reduced matrix takes to zero, and two that take the same rows to
+/// zero are equal.
+pub fn co_reduced_form()
+    ensures exists { (q : Gf) (m n : ℕ) (f : Mat q m n) → CoReducedForm f }
+    ensures unique { (q : Gf) (n b c : ℕ) (g : Mat q n b) (h : Mat q n c) (p r : ℕ → ℕ) → IsCoReduced g p → IsCoReduced h r
+        → ((x : Row q n) → x · h ≡ zeros q 1 c → x · g ≡ zeros q 1 b) → ((x : Row q n) → x · g ≡ zeros q 1 b → x · h ≡ zeros q 1 c)
+        → (b ≡ c) × ((i j : ℕ) → g.at i j ≡ h.at i j) }
 {}
