@@ -3,14 +3,17 @@ pub mod Blocks
 pub mod CoReduced
 pub mod CoReducedUnique
 pub mod Dimension
+pub mod Exactness
 pub mod Families
 pub mod FieldAxioms
 pub mod FieldPowers
 pub mod Fitting
+pub mod Frobenius
 pub mod Inverses
 pub mod KernelRows
 pub mod LinearMaps
 pub mod MatrixLaws
+pub mod MatrixPaths
 pub mod NilOrFixed
 pub mod PartsLaws
 pub mod PrimeFields

@@ -1,8 +1,8 @@
 -- The laws of sums, multiples, products and transposes of matrices. Each is proved by entries, and cited without them.
-use Rattle.std.proofs.Common.{ℕ, zero, ◌<◌, ◌≡◌, refl, sym, ap, ap₂, ◌∙◌, inl, inr, ltb, lt-ltb, mod-eq_of_lt}
+use Rattle.std.proofs.Common.{ℕ, zero, ◌%◌, ◌<◌, ◌≡◌, refl, sym, ap, ap₂, ◌∙◌, inl, inr, ltb, lt-ltb, mod-eq_of_lt}
 use Rattle.std.proofs.lemmas.Bool.{cases_eq, cond-true}
-use Rattle.linear_algebra.specs.Field.{Gf, add, sub, mul, neg}
-use Rattle.linear_algebra.specs.FieldLaws.{sub_def, add_swap, add_assoc, add_comm, add_left_comm, add_zero, zero_add, add_neg, neg-add, neg_neg, neg_zero, mul_assoc, mul_comm, mul_left_comm, mul_one, one_mul, mul_zero, zero_mul, mul_add, add_mul, mul_neg, neg_mul, mod-mul}
+use Rattle.linear_algebra.specs.Field.{Gf, order, add, sub, mul, neg}
+use Rattle.linear_algebra.specs.FieldLaws.{mul-mod_left, sub_def, add_swap, add_assoc, add_comm, add_left_comm, add_zero, zero_add, add_neg, neg-add, neg_neg, neg_zero, mul_assoc, mul_comm, mul_left_comm, mul_one, one_mul, mul_zero, zero_mul, mul_add, add_mul, mul_neg, neg_mul, mod-mul}
 use Rattle.linear_algebra.specs.Sums.{sum_to, sum-ext, sum-zeros, sum-add, mul-sum, sum-mul, neg-sum, sum-swap, sum-single}
 use Rattle.linear_algebra.specs.Matrix.{Mat, Mat-eq, Mat-eq_below, zeros, delta, delta-same, delta-other, one, ◌⊞◌, negative, ◌⊟◌, ◌⊙◌, ◌·◌, transpose}
 
@@ -92,6 +92,10 @@ module _ {q : Gf} {m n : ℕ} where
   pub scale_scale : (c d : ℕ) (a : Mat q m n) → c ⊙ (d ⊙ a) ≡ mul q c d ⊙ a
   unfolding ◌⊙◌
   scale_scale c d a = Mat-eq _ _ (λ i j. sym (mul_assoc q c d (a.at i j)))
+
+  pub scale-mod : (c : ℕ) (a : Mat q m n) → (c % order q) ⊙ a ≡ c ⊙ a
+  unfolding ◌⊙◌
+  scale-mod c a = Mat-eq _ _ (λ i j. mul-mod_left q c (a.at i j))
 
   pub one_scale : (a : Mat q m n) → 1 ⊙ a ≡ a
   unfolding ◌⊙◌

@@ -1,5 +1,5 @@
 -- In a field of p elements sums and products are those of numbers modulo p.
-use Rattle.std.proofs.Common.{◌≡◌, ℕ, ◌+◌, ◌*◌, ◌%◌, ◌^◌, [], ◌∷◌, refl, arith, add-zero, mul-zero}
+use Rattle.std.proofs.Common.{◌<◌, ◌≡◌, ℕ, ◌+◌, ◌*◌, ◌%◌, ◌^◌, [], ◌∷◌, refl, arith, add-zero, mul-zero}
 use Rattle.std.proofs.Math.Nat.{mod-mod, mod-add-mod, add-mod-mod}
 use Rattle.std.proofs.lemmas.Nat.{mul-mod_first, mul-mod_second}
 use Rattle.linear_algebra.specs.Field.{Gf, f2, f3, f4, f5, f7, f8, f9, f11, f13, f16, f25, f27, characteristic, degree, order, polynomial, coefficients, number, plus, times, multiple, front, top, remainder, add, mul}
@@ -55,3 +55,17 @@ prime_mul f13 a b h = product_modulo 13 a b
 prime_mul f16 a b h = absurd (omega arith)
 prime_mul f25 a b h = absurd (omega arith)
 prime_mul f27 a b h = absurd (omega arith)
+
+pub characteristic-pos : (q : Gf) → 0 < characteristic q
+characteristic-pos f2 = omega arith
+characteristic-pos f3 = omega arith
+characteristic-pos f4 = omega arith
+characteristic-pos f5 = omega arith
+characteristic-pos f7 = omega arith
+characteristic-pos f8 = omega arith
+characteristic-pos f9 = omega arith
+characteristic-pos f11 = omega arith
+characteristic-pos f13 = omega arith
+characteristic-pos f16 = omega arith
+characteristic-pos f25 = omega arith
+characteristic-pos f27 = omega arith

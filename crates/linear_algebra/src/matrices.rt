@@ -1,10 +1,10 @@
 //! The main theorems on matrices over a field of the table.
 
-ghost use Rattle.std.specs.Prelude.{◌≡◌, ◌⊎◌, ℕ, ◌<◌, ◌≤◌, List};
-ghost use Rattle.linear_algebra.specs.Field.{Gf};
-ghost use Rattle.linear_algebra.specs.Matrix.{Mat, Row, Column, zeros, one, ◌·◌, stack};
+ghost use Rattle.std.specs.Prelude.{◌≡◌, ◌⊎◌, ℕ, ◌+◌, ◌<◌, ◌≤◌, List};
+ghost use Rattle.linear_algebra.specs.Field.{Gf, order};
+ghost use Rattle.linear_algebra.specs.Matrix.{Mat, Row, zeros, one, ◌·◌, ◌⊞◌, ◌⊙◌, stack};
 ghost use Rattle.linear_algebra.specs.Rank.{RankFactorisation, Complement, IsInSpan, IsSeparate, IsInColumnSpan, HasRightInverse, HasLeftInverse, HasInverse, IsInjective, IsSurjective, IsDependent};
-ghost use Rattle.linear_algebra.specs.Powers.{mat_power, IsNilpotent, FittingParts};
+ghost use Rattle.linear_algebra.specs.Powers.{mat_power, shifts, IsNilpotent, FittingParts};
 ghost use Rattle.linear_algebra.specs.RowForm.{ReducedForm, IsRowReduced, CoReducedForm, IsCoReduced};
 ghost use Rattle.linear_algebra.specs.Rows.{IsGrid, SameSpan};
 ghost use Rattle.linear_algebra.specs.Reduced.{IsReduced};
@@ -88,4 +88,21 @@ pub fn co_reduced_form()
     ensures unique { (q : Gf) (n b c : ℕ) (g : Mat q n b) (h : Mat q n c) (p r : ℕ → ℕ) → IsCoReduced g p → IsCoReduced h r
         → ((x : Row q n) → x · h ≡ zeros q 1 c → x · g ≡ zeros q 1 b) → ((x : Row q n) → x · g ≡ zeros q 1 b → x · h ≡ zeros q 1 c)
         → (b ≡ c) × ((i j : ℕ) → g.at i j ≡ h.at i j) }
+{}
+
+/// The Frobenius map on matrices: q-th powers of commuting matrices add, multiples go with them, and a matrix that is its own
+/// q-th power is a zero of the product of all X − c, where c runs through the field.
+pub fn frobenius()
+    ensures powers_add { (q : Gf) (n : ℕ) (y z : Mat q n n) → y · z ≡ z · y → mat_power (y ⊞ z) (order q) ≡ mat_power y (order q) ⊞ mat_power z (order q) }
+    ensures multiples { (q : Gf) (n c : ℕ) (y : Mat q n n) → mat_power (c ⊙ y) (order q) ≡ c ⊙ mat_power y (order q) }
+    ensures roots { (q : Gf) (n : ℕ) (y : Mat q n n) → mat_power y (order q) ≡ y → shifts y (order q) ≡ zeros q n n }
+{}
+
+/// Exactness by ranks: where f · g = 0, every row that g takes to zero is in the span of f exactly where the ranks of f and g
+/// add to the number of rows of g.
+pub fn exactness()
+    ensures by_ranks { (q : Gf) (m n k : ℕ) (f : Mat q m n) (g : Mat q n k) (a : RankFactorisation f) (b : RankFactorisation g) → f · g ≡ zeros q m k
+        → a.size + b.size ≡ n → (x : Row q n) → x · g ≡ zeros q 1 k → IsInSpan f x }
+    ensures ranks { (q : Gf) (m n k : ℕ) (f : Mat q m n) (g : Mat q n k) (a : RankFactorisation f) (b : RankFactorisation g) → f · g ≡ zeros q m k
+        → ((x : Row q n) → x · g ≡ zeros q 1 k → IsInSpan f x) → a.size + b.size ≡ n }
 {}
