@@ -3,8 +3,10 @@ pub mod Blocks
 pub mod CoReduced
 pub mod CoReducedUnique
 pub mod Dimension
+pub mod DirectSum
 pub mod Exactness
 pub mod Families
+pub mod FamilyPowers
 pub mod FieldAxioms
 pub mod FieldPowers
 pub mod Fitting
@@ -19,6 +21,7 @@ pub mod PartsLaws
 pub mod PrimeFields
 pub mod Products
 pub mod RankExists
+pub mod Ranks
 pub mod Reduced
 pub mod ReducedSpans
 pub mod RowForm

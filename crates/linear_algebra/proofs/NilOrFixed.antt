@@ -53,7 +53,7 @@ module _ {q : Gf} {d : ℕ} (s : ℕ) (g : ℕ → Mat q d d) where
   images-inside U h (suc k) = in_span_trans U.basis (images s g U k).basis _ (images-inside U h k) (images-descend U h k)
 
   -- A product of k combinations has its rows in the place k of the chain.
-  products_in : (h : ℕ → Mat q d d) (k : ℕ) → ((i : ℕ) → i < k → IsCombination s g (h i)) → IsInSpan (images s g (whole q d) k).basis (ordered_product h k)
+  pub products_in : (h : ℕ → Mat q d d) (k : ℕ) → ((i : ℕ) → i < k → IsCombination s g (h i)) → IsInSpan (images s g (whole q d) k).basis (ordered_product h k)
   unfolding images ordered_product
   products_in h zero c = in_whole (one q d)
   products_in h (suc k) c = image_under-combination s g (images s g (whole q d) k) (ordered_product h k) (h k) (c k (omega arith)) (products_in h k (λ i l. c i (omega arith)))

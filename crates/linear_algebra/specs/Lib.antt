@@ -1,4 +1,5 @@
 pub mod BlockFamilies
+pub mod DirectSum
 pub mod Families
 pub mod Field
 pub mod FieldLaws
