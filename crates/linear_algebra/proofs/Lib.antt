@@ -29,6 +29,7 @@ pub mod RowFormUnique
 pub mod RowSteps
 pub mod Rows
 pub mod Search
+pub mod Solutions
 pub mod Solving
 pub mod SpanPush
 pub mod Steinitz

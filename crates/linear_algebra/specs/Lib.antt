@@ -14,5 +14,6 @@ pub mod Rank
 pub mod Reduced
 pub mod RowForm
 pub mod Rows
+pub mod Solutions
 pub mod Sums
 pub mod Typed

@@ -6,6 +6,8 @@ ghost use Rattle.linear_algebra.specs.Matrix.{Mat, Row, zeros, one, ◌·◌, �
 ghost use Rattle.linear_algebra.specs.Rank.{RankFactorisation, Complement, IsInSpan, IsSeparate, IsInColumnSpan, HasRightInverse, HasLeftInverse, HasInverse, IsInjective, IsSurjective, IsDependent};
 ghost use Rattle.linear_algebra.specs.Powers.{mat_power, shifts, IsNilpotent, FittingParts};
 ghost use Rattle.linear_algebra.specs.RowForm.{ReducedForm, IsRowReduced, CoReducedForm, IsCoReduced};
+ghost use Rattle.linear_algebra.specs.LinearMaps.{IsLinear, matrix_of};
+ghost use Rattle.linear_algebra.specs.Solutions.{SolutionBasis};
 ghost use Rattle.linear_algebra.specs.Rows.{IsGrid, SameSpan};
 ghost use Rattle.linear_algebra.specs.Reduced.{IsReduced};
 ghost use Rattle.linear_algebra.specs.Families.{IsCombination, HasFixedRow, ordered_product};
@@ -105,4 +107,11 @@ pub fn exactness()
         → a.size + b.size ≡ n → (x : Row q n) → x · g ≡ zeros q 1 k → IsInSpan f x }
     ensures ranks { (q : Gf) (m n k : ℕ) (f : Mat q m n) (g : Mat q n k) (a : RankFactorisation f) (b : RankFactorisation g) → f · g ≡ zeros q m k
         → ((x : Row q n) → x · g ≡ zeros q 1 k → IsInSpan f x) → a.size + b.size ≡ n }
+{}
+
+/// The rows that a linear function takes to zero have a basis in reduced row form, of as many rows as the rank of the function's
+/// matrix leaves of their length.
+pub fn solutions()
+    ensures basis { (q : Gf) (m n : ℕ) (f : Row q m → Row q n) → IsLinear f → SolutionBasis f }
+    ensures size { (q : Gf) (m n : ℕ) (f : Row q m → Row q n) → IsLinear f → (s : SolutionBasis f) (a : RankFactorisation (matrix_of f)) → s.size + a.size ≡ m }
 {}
