@@ -1,6 +1,7 @@
 mod CountingSteps
 mod ListingSteps
 pub mod ListLemmas
+pub mod NamesLemmas
 pub mod PathCountLemmas
 pub mod PathLemmas
 pub mod PathListLemmas

@@ -12,11 +12,13 @@ mod counting;
 mod joining;
 pub mod laws;
 mod listing;
+mod names;
 mod naming;
 mod order;
 
 pub use joining::concat;
 pub use listing::paths_below;
+pub use names::{Names, Reference, Suffix};
 pub use naming::Name;
 pub use order::compare;
 

@@ -160,3 +160,23 @@ fn counts_paths_of_two_loops(rt: HostRuntime) -> Result<(), Fail> {
     );
     Ok(())
 }
+
+#[test]
+fn keeps_names_once(rt: HostRuntime) -> Result<(), Fail> {
+    let mut names = Names::new(rt.alloc());
+    assert_eq!(rt; names.place(&name("a")?), None);
+    assert!(rt; names.add(name("a")?)?);
+    assert!(rt; names.add(name("B")?)?);
+    assert!(rt; !names.add(name("a")?)?);
+    assert!(rt; names.add(name("b")?)?);
+    assert_eq!(rt; names.place(&name("a")?), Some(0));
+    assert_eq!(rt; names.place(&name("B")?), Some(1));
+    assert_eq!(rt; names.place(&name("b")?), Some(2));
+    assert_eq!(rt; names.place(&name("c")?), None);
+    let part = Reference {
+        name: name("a")?,
+        suffix: Suffix::Part(2),
+    };
+    assert!(rt; part.clone()? == part);
+    Ok(())
+}
