@@ -4,7 +4,7 @@ use Rattle.std.proofs.lemmas.Nat.{mul-add-lt, same_from_place}
 use Rattle.std.proofs.lemmas.Bool.{cases_lt, cases_eq}
 use Rattle.std.proofs.lemmas.Bool.Decides.{eqb_tells}
 use Rattle.fp_linear.specs.Slices.{cell, IsWritten, copied}
-use Rattle.fp_linear.specs.Products.{HasBlock, HasUnits}
+use Rattle.fp_linear.specs.Products.{HasBlock, HasUnits, HasColumn, HasColumns}
 use Rattle.fp_linear.proofs.Cells.{cell-is, cell-written, cell-unwritten}
 
 pub HasBlock-none : (n count first from : ℕ) (e f : ℕ → ℕ → ℕ) → HasBlock n count 0 first from e f f
@@ -56,3 +56,37 @@ HasUnits-more m w c k old s len fits hk h = record {
 
     away : (i j : ℕ) → j < w → ((i ≡ k) × (j ≡ c + k) → ⊥) → cell w new i j ≡ cell w s i j
     away i j l d = cell-is w new i j ∙ get_or-set_other s (k * w + c + k) (i * w + j) 1 0 (λ x. d (same_from_place i j k (c + k) w l (omega arith) (omega arith))) ∙ sym (cell-is w s i j)
+
+-- columns
+pub HasColumn-none : (width column : ℕ) (h : ℕ → ℕ) (f : ℕ → ℕ → ℕ) → HasColumn width 0 column h f f
+HasColumn-none width column h f = record { written = λ j l. absurd (omega arith); kept = λ j t l d. refl }
+
+pub HasColumn-more : (width n j column v : ℕ) (h : ℕ → ℕ) (f : ℕ → ℕ → ℕ) (s : List ℕ) → column < width → j < n → n * width ≤ length s → v ≡ h j → HasColumn width j column h f (cell width s)
+    → HasColumn width (j + 1) column h f (cell width (set s (j * width + column) v))
+HasColumn-more width n j column v h f s hc hj len e w = record {
+  written = λ i l. elim (cases_lt i j) [
+    | inl b ↦ away i column hc (λ x. let u = x.0 in omega arith) ∙ w.written i b
+    | inr b ↦
+        let k : i ≡ j = omega arith in
+        ap (λ i. cell width new i column) k ∙ cell-is width new j column ∙ get_or-set_same s (j * width + column) v 0 (let f = mul-add-lt j width column n hj hc in omega arith) ∙ e ∙ ap h (sym k)
+  ];
+  kept = λ i t l d. away i t l (λ x. d (x.1)) ∙ w.kept i t l d;
+}
+  where
+    new : List ℕ
+    new = set s (j * width + column) v
+
+    away : (i t : ℕ) → t < width → ((i ≡ j) × (t ≡ column) → ⊥) → cell width new i t ≡ cell width s i t
+    away i t l d = cell-is width new i t ∙ get_or-set_other s (j * width + column) (i * width + t) v 0 (λ x. d (same_from_place i t j column width l hc x)) ∙ sym (cell-is width s i t)
+
+pub HasColumns-none : (n first : ℕ) (e f : ℕ → ℕ → ℕ) → HasColumns n first 0 e f f
+HasColumns-none n first e f = record { done = λ t j l. absurd (omega arith); kept = λ t j l. refl }
+
+pub HasColumns-more : (width n first i : ℕ) (source : List ℕ) (f g h : ℕ → ℕ → ℕ) → first + i < width → HasColumns n first i (cell n source) f g → HasColumn width n (first + i) (copied (i * n) source) g h → HasColumns n first (i + 1) (cell n source) f h
+HasColumns-more width n first i source f g h l w c = record {
+  done = λ t j b d. elim (cases_lt t i) [
+    | inl u ↦ c.kept j (first + t) (omega arith) (λ e. omega arith) ∙ w.done t j u d
+    | inr u ↦ let e : t ≡ i = omega arith in ap (λ t. h j (first + t)) e ∙ c.written j d ∙ sym (cell-is n source i j) ∙ ap (λ i. cell n source i j) (sym e)
+  ];
+  kept = λ t j b. c.kept j t (omega arith) (λ e. omega arith) ∙ w.kept t j b;
+}

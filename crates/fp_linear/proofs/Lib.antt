@@ -2,10 +2,12 @@ pub mod BlockLoops
 pub mod Cells
 pub mod Elimination
 pub mod Fields
+pub mod InvertOf
 pub mod KernelOf
 pub mod Matrices
 pub mod Products
 pub mod Result
 pub mod RowLoops
 pub mod Slices
+pub mod SolveOf
 pub mod Spans

@@ -21,12 +21,17 @@ row-part m n i k s e h l =
     (λ j b. get_or-take k (drop (i * n) s) j 0 (omega arith) ∙ get_or-drop (i * n) s j 0)
     ∙ sym (row-rows_of m n s i h)
 
+-- each number of a list of zeros
+pub zero_at : (n : ℕ) (s : List ℕ) (k : ℕ) → s ≡ replicate n 0 → get_or s k 0 ≡ 0
+zero_at n s k e =
+    ap (λ s. get_or s k 0) e ∙ elim (cases_lt k n) [
+      | inl l ↦ get_or-replicate n k 0 0 l
+      | inr l ↦ get_or_past (replicate n 0) k 0 (let c = length-replicate {A = ℕ} n 0 in omega arith)
+    ]
+
 pub rows_of-zeros : (m n : ℕ) (s : List ℕ) → s ≡ replicate (m * n) 0 → rows_of m n s ≡ zero_rows m n
 unfolding rows_of zero_rows zeros
-rows_of-zeros m n s e = list_of-same m _ _ [] (λ i l. list_of-same n _ _ 0 (λ j k. ap (λ s. get_or s (i * n + j) 0) e ∙ zero_at (i * n + j)))
-  where
-    zero_at : (k : ℕ) → get_or {A = ℕ} (replicate (m * n) 0) k 0 ≡ 0
-    zero_at k = elim (cases_lt k (m * n)) [ inl l ↦ get_or-replicate (m * n) k 0 0 l | inr l ↦ get_or_past (replicate (m * n) 0) k 0 (let c = length-replicate {A = ℕ} (m * n) 0 in omega arith) ]
+rows_of-zeros m n s e = list_of-same m _ _ [] (λ i l. list_of-same n _ _ 0 (λ j k. zero_at (m * n) s (i * n + j) e))
 
 -- the entries of a vector after a call on it as a slice
 pub HoldsMatrix-written : (q : Gf) (m n k : ℕ) (s old new : List ℕ) → s ≡ take k (new ++ old) → k ≡ length new → length new ≡ m * n → AreElements q new → m * n ≤ 67108864 → HoldsMatrix q m n s

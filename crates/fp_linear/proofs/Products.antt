@@ -1,7 +1,7 @@
 -- Products of matrices row by row, and transposes column by column.
-use Rattle.std.proofs.Common.{ℕ, ◌<◌, ◌≤◌, ◌≡◌, inl, inr, ◌+◌, ◌*◌, ◌-◌, List, [], ◌++◌, replicate, length, get_or, set, take, refl, sym, ap, ◌∙◌, arith, add-one, add-mul, get_or-set_same, get_or-set_other}
+use Rattle.std.proofs.Common.{ℕ, ◌<◌, ◌≡◌, inl, inr, ◌+◌, ◌*◌, ◌-◌, List, [], ◌++◌, replicate, length, get_or, take, refl, sym, ap, ◌∙◌, arith, add-one, add-mul}
 use Rattle.std.proofs.lemmas.List.{get_or-take, get_or-append-add, get_or_append_left, get_or-append_right, length-append, get_or-replicate, length-replicate, ext_get_or}
-use Rattle.std.proofs.lemmas.Nat.{mul-add-lt, same_from_place}
+use Rattle.std.proofs.lemmas.Nat.{mul-add-lt}
 use Rattle.std.proofs.lemmas.Bool.{cases_lt}
 use Rattle.linear_algebra.specs.Field.{Gf, add, mul}
 use Rattle.linear_algebra.specs.FieldLaws.{zero_mul, add_zero}
@@ -68,33 +68,9 @@ rows_of-product q m k n left right start new s h b same =
     ∙ ap (λ c. sum_to q c (λ t. mul q (entry (rows_of m k left) i t) (entry (rows_of k n right) t j))) (sym (length-rows_of k n right))
     ∙ sym (entry-product q n (rows_of m k left) (rows_of k n right) i j (let c = length-rows_of m k left in omega arith) v))
 
--- one column more of a transposed matrix
-pub HasColumns-more : (m n i j v : ℕ) (e : ℕ → ℕ → ℕ) (s : List ℕ) → i < m → j < n → length s ≡ m * n → v ≡ e i j → HasColumns n i j e (cell m s) → HasColumns n i (j + 1) e (cell m (set s (j * m + i) v))
-HasColumns-more m n i j v e s hi hj len ve h =
-    let inside = mul-add-lt j m i n hj hi in
-    record {
-      done = λ t c l b. away c t (omega arith) (λ x. omega arith) ∙ h.done t c l b;
-      begun = λ c l. elim (cases_lt c j) [
-        | inl b ↦ away c i hi (λ x. omega arith) ∙ h.begun c b
-        | inr b ↦ let k : c ≡ j = omega arith in ap (λ c. cell m (set s (j * m + i) v) c i) k ∙ cell-is m (set s (j * m + i) v) j i ∙ get_or-set_same s (j * m + i) v 0 (omega arith) ∙ ve ∙ ap (e i) (sym k)
-      ];
-    }
-  where
-    away : (c t : ℕ) → t < m → ((c ≡ j) × (t ≡ i) → ⊥) → cell m (set s (j * m + i) v) c t ≡ cell m s c t
-    away c t l d = cell-is m (set s (j * m + i) v) c t ∙ get_or-set_other s (j * m + i) (c * m + t) v 0 (λ x. d (same_from_place c t j i m l hi x)) ∙ sym (cell-is m s c t)
-
-pub HasColumns-next : (n i k : ℕ) (e f : ℕ → ℕ → ℕ) → n ≤ k → HasColumns n i k e f → HasColumns n (i + 1) 0 e f
-HasColumns-next n i k e f l h = record {
-  done = λ t j b c. elim (cases_lt t i) [ inl d ↦ h.done t j d c | inr d ↦ let s : t ≡ i = omega arith in ap (f j) s ∙ h.begun j (omega arith) ∙ ap (λ i. e i j) (sym s) ];
-  begun = λ j b. absurd (omega arith);
-}
-
-pub HasColumns-none : (n : ℕ) (e f : ℕ → ℕ → ℕ) → HasColumns n 0 0 e f
-HasColumns-none n e f = record { done = λ t j b. absurd (omega arith); begun = λ j b. absurd (omega arith) }
-
-pub rows_of-transposed : (m n : ℕ) (s t : List ℕ) → HasColumns n m 0 (cell n s) (cell m t) → rows_of n m t ≡ transposed m n (rows_of m n s)
+pub rows_of-transposed : (m n : ℕ) (s t : List ℕ) (f : ℕ → ℕ → ℕ) → HasColumns n 0 m (cell n s) f (cell m t) → rows_of n m t ≡ transposed m n (rows_of m n s)
 unfolding rows_of transposed
-rows_of-transposed m n s t h = list_of-same n _ _ [] (λ j l. list_of-same m _ _ 0 (λ i k. sym (cell-is m t j i) ∙ h.done i j k l ∙ sym (cell-entry m n s i j k l)))
+rows_of-transposed m n s t f h = list_of-same n _ _ [] (λ j l. list_of-same m _ _ 0 (λ i k. let z : 0 + i ≡ i = omega arith in sym (cell-is m t j i) ∙ ap (cell m t j) (sym z) ∙ h.done i j k l ∙ sym (cell-entry m n s i j k l)))
 
 -- the rows of one slice behind another
 pub cell-append : (m n : ℕ) (s t : List ℕ) (i j : ℕ) → length s ≡ m * n → cell n (s ++ t) (m + i) j ≡ cell n t i j

@@ -18,10 +18,15 @@ pub record HasProductRows (q : Gf) (m n k i : ℕ) (a e f : ℕ → ℕ → ℕ)
   pub done : (t j : ℕ) → t < i → j < n → f t j ≡ partial_product q m k a e t j
   pub rest : (t j : ℕ) → i ≤ t → j < n → f t j ≡ e t j
 
--- The first i columns of f, which has m columns, are rows of e, which has n entries in each; of the next the first k entries are.
-pub record HasColumns (n i k : ℕ) (e f : ℕ → ℕ → ℕ) : Type 0 where
-  pub done : (t j : ℕ) → t < i → j < n → f j t ≡ e t j
-  pub begun : (j : ℕ) → j < k → f j i ≡ e i j
+-- Of f, which has `width` columns, the first n entries of a column are h 0, h 1, ..; the other columns stay.
+pub record HasColumn (width n column : ℕ) (h : ℕ → ℕ) (f g : ℕ → ℕ → ℕ) : Type 0 where
+  pub written : (j : ℕ) → j < n → g j column ≡ h j
+  pub kept : (j t : ℕ) → t < width → t ≢ column → g j t ≡ f j t
+
+-- Of f, which has `width` columns, the i columns from `first` on are rows of e, of n entries each; the columns before stay.
+pub record HasColumns (n first i : ℕ) (e f g : ℕ → ℕ → ℕ) : Type 0 where
+  pub done : (t j : ℕ) → t < i → j < n → g j (first + t) ≡ e t j
+  pub kept : (t j : ℕ) → t < first → g j t ≡ f j t
 
 -- The first k rows of f begin with the entries of the rows of e from `first` on, from column `from` on, `count` of each; the other columns stay.
 pub record HasBlock (n count k first from : ℕ) (e f g : ℕ → ℕ → ℕ) : Type 0 where

@@ -2,7 +2,7 @@
 ghost use Rattle.std.specs.Prelude.{◌≡◌, ◌+◌, ◌*◌, ◌<◌, ◌≤◌, ◌^◌, ℕ, length};
 ghost use Rattle.linear_algebra.specs.Field.{Gf};
 ghost use Rattle.fp_linear.specs.Slices.{AreElements, IsWritten, cell, copied};
-ghost use Rattle.fp_linear.specs.Products.{HasBlock, HasUnits};
+ghost use Rattle.fp_linear.specs.Products.{HasBlock, HasColumn, HasColumns, HasUnits};
 
 /// Copies the `count` entries of `source` from `from` on to the places of `target` from `at` on.
 pub(crate) fn copy_part(source: &[u8], from: usize, target: &mut [u8], at: usize, count: usize)
@@ -62,5 +62,45 @@ pub(crate) fn put_units(rows: usize, width: usize, from: usize, entries: &mut [u
 {
     for i in 0..rows {
         entries[i * width + from + i] = 1;
+    }
+}
+
+/// Writes the `count` entries of `source` from `from` on as a column of a matrix of `width` columns.
+pub(crate) fn put_column(
+    source: &[u8],
+    from: usize,
+    count: usize,
+    target: &mut [u8],
+    width: usize,
+    column: usize,
+)
+    requires source_inside { from + count ≤ length source.now }
+    requires target_inside { count * width ≤ length target.old }
+    requires column_inside { column < width }
+    ensures column { HasColumn width count column (copied from source.now) (cell width target.old) (cell width target.new) }
+    ensures elements { (q : Gf) → AreElements q source.now → AreElements q target.old → AreElements q target.new }
+{
+    for j in 0..count {
+        target[j * width + column] = source[from + j];
+    }
+}
+
+/// Writes the first `rows` rows of `source`, of `count` entries each, as the columns from `first` on of a matrix of `width` columns.
+pub(crate) fn put_columns(
+    source: &[u8],
+    count: usize,
+    target: &mut [u8],
+    width: usize,
+    first: usize,
+    rows: usize,
+)
+    requires source_shape { length source.now ≡ rows * count }
+    requires target_shape { length target.old ≡ count * width }
+    requires fits { first + rows ≤ width }
+    ensures columns { HasColumns count first rows (cell count source.now) (cell width target.old) (cell width target.new) }
+    ensures elements { (q : Gf) → AreElements q source.now → AreElements q target.old → AreElements q target.new }
+{
+    for i in 0..rows {
+        put_column(source, i * count, count, target, width, first + i);
     }
 }

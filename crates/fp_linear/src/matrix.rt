@@ -8,6 +8,7 @@ ghost use Rattle.fp_linear.specs.Matrix.{PlainMatrix, plain, IsMatrix, most_entr
 
 mod arithmetic;
 mod kernel;
+mod solve;
 
 use crate::echelon::echelon_rows;
 use crate::field::Field;

@@ -12,6 +12,7 @@ pub mod FieldPowers
 pub mod Fitting
 pub mod Frobenius
 pub mod Inverses
+pub mod InvertRows
 pub mod KernelRows
 pub mod LinearMaps
 pub mod MatrixLaws
@@ -30,6 +31,7 @@ pub mod RowSteps
 pub mod Rows
 pub mod Search
 pub mod Solutions
+pub mod SolveRows
 pub mod Solving
 pub mod SpanPush
 pub mod Steinitz

@@ -13,6 +13,7 @@ pub mod Powers
 pub mod Rank
 pub mod Reduced
 pub mod RowForm
+pub mod RowSolutions
 pub mod Rows
 pub mod Solutions
 pub mod Sums

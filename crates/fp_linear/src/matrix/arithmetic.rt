@@ -4,9 +4,10 @@ ghost use Rattle.linear_algebra.specs.Field.{Gf, order, mul};
 ghost use Rattle.linear_algebra.specs.Rows.{rows_of, product, transposed};
 ghost use Rattle.fp_linear.specs.Slices.{AreElements, cell};
 ghost use Rattle.fp_linear.specs.Matrix.{PlainMatrix, plain, IsMatrix, most_entries};
-ghost use Rattle.fp_linear.specs.Products.{HasProductRow, HasProductRows, HasColumns};
+ghost use Rattle.fp_linear.specs.Products.{HasProductRow, HasProductRows};
 
 use crate::add::add_multiple;
+use crate::blocks::put_columns;
 use crate::field::Field;
 use crate::matrix::Matrix;
 use std::alloc::{AllocError, Global};
@@ -67,9 +68,7 @@ impl Matrix {
         let rows = self.rows as usize;
         let cols = self.cols as usize;
         let mut entries = vec![in alloc; 0u8; rows * cols]?;
-        for i in 0..rows {
-            put_column(rows, cols, i, &self.entries, &mut entries);
-        }
+        put_columns(&self.entries, cols, &mut entries, rows, 0, rows);
         Ok(Matrix {
             field: self.field,
             rows: self.cols,
@@ -130,19 +129,5 @@ fn multiply_row(
         if factor != 0 {
             add_multiple(field, factor, (rows + k) * cols, i * cols, cols, entries);
         }
-    }
-}
-
-// Writes row `i` of a matrix as column `i` of the transposed one.
-fn put_column(rows: usize, cols: usize, i: usize, source: &[u8], entries: &mut [u8])
-    requires source_shape { length source.now ≡ rows * cols }
-    requires shape { length entries.old ≡ rows * cols }
-    requires inside { i < rows }
-    requires before { HasColumns cols i 0 (cell cols source.now) (cell rows entries.old) }
-    ensures after { HasColumns cols (i + 1) 0 (cell cols source.now) (cell rows entries.new) }
-    ensures elements { (q : Gf) → AreElements q source.now → AreElements q entries.old → AreElements q entries.new }
-{
-    for j in 0..cols {
-        entries[j * rows + i] = source[i * cols + j];
     }
 }

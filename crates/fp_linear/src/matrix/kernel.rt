@@ -69,8 +69,8 @@ fn extend(rows: usize, cols: usize, entries: &[u8], wide: &mut [u8])
     put_units(rows, width, cols, wide);
 }
 
-// How many of the first `rank` pivots, which ascend, are below `bound`.
-fn count_below(pivots: &[u32], rank: usize, bound: usize) -> usize
+/// How many of the first `rank` pivots, which ascend, are below `bound`.
+pub(crate) fn count_below(pivots: &[u32], rank: usize, bound: usize) -> usize
     requires inside { rank ≤ length pivots.now }
     requires ascending { (i k : ℕ) → i < k → k < rank → slice_index pivots.now i < slice_index pivots.now k }
     ensures fits { result ≤ rank }
