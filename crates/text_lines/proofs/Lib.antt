@@ -3,3 +3,5 @@ pub mod Readings
 pub mod Digits
 pub mod FormLaws
 pub mod StrictLaws
+mod WordLaws
+mod ShortNumbers

@@ -1,6 +1,7 @@
 pub mod Parts
 pub mod Lines
 pub mod Strict
+pub mod Script
 pub mod Numerals
 pub mod Reading
 pub mod Forms

@@ -5,6 +5,7 @@ mod lines;
 mod numerals;
 mod parts;
 mod reading;
+mod script;
 
 pub use lines::{first_line, strict_lines, strict_tokens, text_of_lines, without_feed};
 pub use numerals::{
@@ -12,6 +13,7 @@ pub use numerals::{
 };
 pub use parts::{Parts, cut_at, joined_parts, parts_joined};
 pub use reading::{LineReader, TextError, one_first_bad_line, read_lines};
+pub use script::{Words, script_number, script_numbers_are_written, script_words};
 
 #[cfg(test)]
 mod tests;

@@ -3,7 +3,7 @@ ghost use Rattle.std.specs.Prelude.{◌≡◌, ◌+◌, ◌<◌, ◌≤◌, code
 
 use super::{
     LineReader, Parts, TextError, digits_value, first_line, push_numeral, read_lines, read_numeral,
-    strict_tokens, without_feed,
+    script_number, script_words, strict_tokens, without_feed,
 };
 use std::alloc::AllocError;
 use std::test::Fail;
@@ -102,5 +102,59 @@ fn reads_and_writes_numerals(rt: HostRuntime) -> Result<(), Fail> {
     let mut out = Vec::from_slice(rt.alloc(), b"bound ")?;
     push_numeral(&mut out, 30)?;
     assert_eq!(rt; out.as_slice(), b"bound 30".as_slice());
+    Ok(())
+}
+
+#[test]
+fn cuts_lines_of_a_script(rt: HostRuntime) -> Result<(), Fail> {
+    for (line, want) in [
+        ("rep M 1 2\n", 4),
+        ("\t rep\tM  1 2 \r\n", 4),
+        ("rep M# 1 2\n", 2),
+        ("end", 1),
+        ("\n", 0),
+        ("\r\n", 0),
+        ("", 0),
+        (" \t# a \r b é\n", 0),
+    ] {
+        let mut words = script_words(line.as_bytes()).ok_or("refused")?;
+        let mut count = 0u8;
+        for _ in 0..9 {
+            if words.next_word().is_some() && count < 9 {
+                count += 1;
+            }
+        }
+        assert_eq!(rt; count, want, "{line:?}");
+    }
+    for line in [
+        "end\r",
+        "e\rnd\n",
+        "end\r\r\n",
+        "rep é 1\n",
+        "a\u{7f}b\n",
+        "\u{b}\n",
+    ] {
+        assert!(rt; script_words(line.as_bytes()).is_none(), "{line:?}");
+    }
+    let mut words = script_words(b"map\tF#x\n").ok_or("refused")?;
+    assert_eq!(rt; words.next_word(), Some(b"map".as_slice()));
+    assert_eq!(rt; words.next_word(), Some(b"F".as_slice()));
+    assert_eq!(rt; words.next_word(), None);
+    Ok(())
+}
+
+#[test]
+fn reads_numbers_of_a_script(rt: HostRuntime) -> Result<(), Fail> {
+    for (text, want) in [
+        ("0", Some(0)),
+        ("0000000007", Some(7)),
+        ("9999999999", Some(9_999_999_999)),
+        ("00000000007", None),
+        ("", None),
+        ("-1", None),
+        ("1.", None),
+    ] {
+        assert_eq!(rt; script_number(text.as_bytes()), want, "{text:?}");
+    }
     Ok(())
 }
