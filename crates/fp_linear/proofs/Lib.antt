@@ -8,6 +8,8 @@ pub mod Matrices
 pub mod Products
 pub mod Result
 pub mod RowLoops
+pub mod RowClearing
+pub mod SeparateOf
 pub mod Slices
 pub mod SolveOf
 pub mod Spans

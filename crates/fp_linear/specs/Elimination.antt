@@ -1,6 +1,7 @@
 -- The state of elimination: a matrix, given by its entries, of which the first columns are done.
 use Rattle.std.specs.Prelude.{ℕ, ◌<◌, ◌≤◌, ◌≡◌, ◌≢◌}
-use Rattle.linear_algebra.specs.Field.{Gf, add, mul, neg}
+use Rattle.linear_algebra.specs.Field.{Gf, add, mul, neg, sub}
+use Rattle.linear_algebra.specs.Sums.{sum_to}
 
 -- Of a matrix with m rows and entries e the first c columns are in reduced row form: its first r rows have their leading ones at the places
 -- p 0 < p 1 < .. < p (r − 1) of these columns, the other entries of those columns are zero, and so are the first c entries of the other rows.
@@ -41,3 +42,14 @@ pub record IsClearedBelow (q : Gf) (m n r c k : ℕ) (e f : ℕ → ℕ → ℕ)
   pub row : (j : ℕ) → j < n → f r j ≡ e r j
   pub done : (i j : ℕ) → i < k → i < m → j < n → i ≢ r → f i j ≡ add q (e i j) (mul q (neg q (e i c)) (e r j))
   pub rest : (i j : ℕ) → k ≤ i → i < m → j < n → f i j ≡ e i j
+
+-- From row r the first k rows are taken, each as often as its pivot p i stood in row r.
+pub record IsRowCleared (q : Gf) (n r k : ℕ) (p : ℕ → ℕ) (e f : ℕ → ℕ → ℕ) : Type 0 where
+  pub row : (j : ℕ) → j < n → f r j ≡ sub q (e r j) (sum_to q k (λ i. mul q (e r (p i)) (e i j)))
+  pub others : (i j : ℕ) → j < n → i ≢ r → f i j ≡ e i j
+
+-- f is the functional of column c, as far as the first k rows in reduced row form with the entries e and the pivots p tell it.
+pub record IsFunctionalUpTo (q : Gf) (n c k : ℕ) (e : ℕ → ℕ → ℕ) (p f : ℕ → ℕ) : Type 0 where
+  pub at_column : f c ≡ 1
+  pub at_pivot : (i : ℕ) → i < k → f (p i) ≡ neg q (e i c)
+  pub elsewhere : (j : ℕ) → j < n → j ≢ c → ((i : ℕ) → i < k → p i ≢ j) → f j ≡ 0

@@ -7,12 +7,14 @@ mod echelon;
 mod field;
 mod matrix;
 mod scratch;
+mod separate;
 mod tables;
 
 pub use echelon::echelon_rows;
 pub use field::Field;
 pub use matrix::{Matrix, echelon_in_place};
 pub use scratch::Scratch;
+pub use separate::separating;
 
 #[cfg(test)]
 mod tests;

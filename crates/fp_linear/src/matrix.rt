@@ -72,6 +72,15 @@ impl Matrix {
         })
     }
 
+    /// The entries row by row, in memory of their own.
+    pub(crate) fn entries_in(&self, alloc: Global) -> Result<Vec<u8>, AllocError>
+        ensures count { IfOk result (λ v. length v.items ≡ self.now.row_count * self.now.col_count) }
+        ensures elements { IfOk result (λ v. AreElements self.now.field v.items) }
+        ensures rows { IfOk result (λ v. rows_of self.now.row_count self.now.col_count v.items ≡ self.now.rows) }
+    {
+        Vec::from_slice(alloc, &self.entries)
+    }
+
     /// The field of the entries.
     pub fn field(&self) -> Field
         ensures field { result ≡ self.now.field }

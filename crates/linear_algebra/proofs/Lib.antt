@@ -30,6 +30,7 @@ pub mod RowFormUnique
 pub mod RowSteps
 pub mod Rows
 pub mod Search
+pub mod SeparateRows
 pub mod Solutions
 pub mod SolveRows
 pub mod Solving

@@ -8,6 +8,7 @@ use Rattle.linear_algebra.specs.FieldLaws.{order-pos, zero_mul, mul_zero, mul-mo
 use Rattle.linear_algebra.specs.Sums.{sum-zeros, sum-single}
 use Rattle.linear_algebra.specs.Rows.{entry, IsRow, IsGrid, list_of, times, IsInSpan}
 use Rattle.linear_algebra.specs.Reduced.{leading, pivot, IsReduced}
+pub use Rattle.linear_algebra.specs.Reduced.{at_pivots, remainder}
 use Rattle.linear_algebra.proofs.Rows.{length-list_of, get_or-list_of, list_of-is, get_or-times, length-times, IsRow-times}
 use Rattle.linear_algebra.proofs.Reduced.{HasPivots, HasPivots-reduced, leading_is, at_leading}
 
@@ -82,14 +83,6 @@ leading_at_pivot q m n rows x g r s l = elim (first_nonzero (length rows) (λ i.
   | inr z ↦ absurd (at_leading x (let e = ap length s.1 in let e2 = length-times q n s.0 rows in omega arith)
       (zero_from_pivots q m n rows x g r s (λ i k. sym (ap (λ y. get_or y (pivot rows i) 0) s.1) ∙ (times-at_pivot q m n rows s.0 i g r k ∙ z i k)) (leading x)))
 ]
-
--- the entries of a row at the pivots
-unfoldable pub at_pivots : List (List ℕ) → List ℕ → List ℕ
-at_pivots rows x = list_of (length rows) (λ i. get_or x (pivot rows i) 0)
-
--- what is left of a row when the pivot columns are cleared
-unfoldable pub remainder : Gf → ℕ → List (List ℕ) → List ℕ → List ℕ
-remainder q n rows x = list_of n (λ j. sub q (get_or x j 0) (get_or (times q n (at_pivots rows x) rows) j 0))
 
 pub get_or-remainder : (q : Gf) (n : ℕ) (rows : List (List ℕ)) (x : List ℕ) (j : ℕ) → j < n
     → get_or (remainder q n rows x) j 0 ≡ sub q (get_or x j 0) (get_or (times q n (at_pivots rows x) rows) j 0)

@@ -58,7 +58,7 @@ sum_equal : (q : Gf) (a b : ℕ) → a < order q → b < order q → add q a (ne
 sum_equal q a b h k e = sub_eq_zero q a b h k (sub_def q a b ∙ e)
 
 -- each column is a pivot or none
-pivot_or_none : (r : ℕ) (p : ℕ → ℕ) (j : ℕ) → ((a : ℕ) × (a < r) × (p a ≡ j)) ⊎ ((a : ℕ) → a < r → p a ≢ j)
+pub pivot_or_none : (r : ℕ) (p : ℕ → ℕ) (j : ℕ) → ((a : ℕ) × (a < r) × (p a ≡ j)) ⊎ ((a : ℕ) → a < r → p a ≢ j)
 pivot_or_none zero p j = inr (λ a h. absurd (omega arith))
 pivot_or_none (suc r) p j = elim (cases_eq (p r) j) [
   | inl e ↦ inl (r, omega arith, e)

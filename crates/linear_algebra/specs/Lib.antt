@@ -15,6 +15,7 @@ pub mod Reduced
 pub mod RowForm
 pub mod RowSolutions
 pub mod Rows
+pub mod Separators
 pub mod Solutions
 pub mod Sums
 pub mod Typed

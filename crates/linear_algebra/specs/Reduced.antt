@@ -1,7 +1,7 @@
 -- Reduced row form. (Any textbook of linear algebra.)
-use Rattle.std.specs.Prelude.{ℕ, suc, ◌<◌, ◌≤◌, ◌≡◌, ◌≢◌, List, [], ◌∷◌, length, map, take, slice_index_or, if◌then◌else◌, ◌==◌}
-use Rattle.linear_algebra.specs.Field.{Gf}
-use Rattle.linear_algebra.specs.Rows.{entry, zeros, SameSpan}
+use Rattle.std.specs.Prelude.{ℕ, suc, ◌<◌, ◌≤◌, ◌≡◌, ◌≢◌, List, [], ◌∷◌, length, map, take, slice_index, slice_index_or, if◌then◌else◌, ◌==◌}
+use Rattle.linear_algebra.specs.Field.{Gf, sub}
+use Rattle.linear_algebra.specs.Rows.{list_of, entry, zeros, times, SameSpan}
 
 -- the place of the first entry that is not zero; the length where there is none
 unfoldable pub leading : List ℕ → ℕ
@@ -33,3 +33,11 @@ pub record ReducesTo (q : Gf) (n : ℕ) (old new : List (List ℕ)) (pivots : Li
   pub span : SameSpan q n old (take rank new)
   pub rest : (i : ℕ) → rank ≤ i → i < length new → slice_index_or new i [] ≡ zeros n
   pub columns : take rank pivots ≡ pivots_of (take rank new)
+
+-- the entries of a row at the pivots
+unfoldable pub at_pivots : List (List ℕ) → List ℕ → List ℕ
+at_pivots rows x = list_of (length rows) (λ i. slice_index x (pivot rows i))
+
+-- what is left of a row with n entries when the pivot columns of a matrix in reduced row form are cleared
+unfoldable pub remainder : Gf → ℕ → List (List ℕ) → List ℕ → List ℕ
+remainder q n rows x = list_of n (λ j. sub q (slice_index x j) (slice_index (times q n (at_pivots rows x) rows) j))
