@@ -1,0 +1,14 @@
+pub mod Between
+pub mod ElementLemmas
+pub mod IdealLemmas
+pub mod Columns
+pub mod Combinations
+pub mod Quotient
+pub mod ProductRows
+pub mod Places
+pub mod ColumnList
+pub mod RowSlices
+pub mod FreeColumns
+pub mod Collecting
+pub mod FreePaths
+pub mod AllRows

@@ -1,0 +1,35 @@
+//! What holds of the ideal, of congruence and of normal words. The functions do nothing: their contracts are laws.
+ghost use Rattle.std.specs.Prelude.{◌≡◌, ◌≢◌, ◌<◌, ◌≤◌, ℕ, List};
+ghost use Rattle.linear_algebra.specs.Field.{add, mul};
+ghost use Rattle.quiver_paths.specs.declared.Path.{Path};
+ghost use Rattle.quiver_paths.specs.Path.{Meets, concat, path_length};
+ghost use Rattle.alg_table.specs.declared.Header.{Header};
+ghost use Rattle.alg_table.specs.Elements.{product_between};
+ghost use Rattle.alg_table.specs.Ideals.{IsInIdeal, Congruent};
+ghost use Rattle.alg_table.specs.Allowed.{IsAllowed};
+ghost use Rattle.alg_table.specs.Words.{IsShortPath, IsNormal, AreNormalWords, IsBasis};
+
+/// The coefficient of u·x·v at u·m·v is that of x at m; it is zero at paths of the bound's length or more, and at paths that are no such product.
+pub fn product_at()
+    ensures there { (t : ℕ) (u : Path) (x : Path → ℕ) (v m : Path) → Meets u m → Meets m v → path_length (concat u (concat m v)) < t
+        → product_between t u x v (concat u (concat m v)) ≡ x m }
+    ensures long { (t : ℕ) (u : Path) (x : Path → ℕ) (v p : Path) → t ≤ path_length p → product_between t u x v p ≡ 0 }
+    ensures elsewhere { (t : ℕ) (u : Path) (x : Path → ℕ) (v p : Path) → ((m : Path) → Meets u m → Meets m v → p ≢ concat u (concat m v)) → product_between t u x v p ≡ 0 }
+{}
+
+/// The ideal is closed under sums and multiples; its members are zero but at paths of the quiver that are shorter than the bound.
+pub fn ideal_is_a_subspace()
+    ensures sum { (h : Header) (x y : Path → ℕ) → IsInIdeal h x → IsInIdeal h y → IsInIdeal h (λ p. add h.field (x p) (y p)) }
+    ensures multiple { (h : Header) (c : ℕ) (x : Path → ℕ) → IsInIdeal h x → IsInIdeal h (λ p. mul h.field c (x p)) }
+    ensures support { (h : Header) → IsAllowed h → (x : Path → ℕ) → IsInIdeal h x → (p : Path) → x p ≢ 0 → IsShortPath h p }
+{}
+
+/// The normal words are a basis of the quotient: each path shorter than the bound is congruent to exactly one combination of them. (Green.)
+pub fn normal_words_are_a_basis()
+    ensures { (h : Header) → IsAllowed h → (words : List Path) → AreNormalWords h words → IsBasis h words }
+{}
+
+/// A header has at most one list of normal words.
+pub fn normal_words_are_unique()
+    ensures { (h : Header) (a b : List Path) → AreNormalWords h a → AreNormalWords h b → a ≡ b }
+{}
