@@ -1,0 +1,12 @@
+pub mod Biproducts
+pub mod Duals
+pub mod Endomorphisms
+pub mod Factoring
+pub mod HomSpace
+pub mod Homs
+pub mod Kernels
+pub mod MatrixExtras
+pub mod Paths
+pub mod Radical
+pub mod Submodules
+pub mod Sums

@@ -1,0 +1,11 @@
+pub mod Dual
+pub mod Factoring
+pub mod Hom
+pub mod HomSpace
+pub mod Kernel
+pub mod Module
+pub mod Quiver
+pub mod Radical
+pub mod Rep
+pub mod Submodule
+pub mod Sum

@@ -1,0 +1,54 @@
+//! The laws of the radical and of the duality. Chapters are those of Assem, Simson, Skowroński, volume 1.
+
+ghost use Rattle.std.specs.Prelude.{◌≡◌, ℕ};
+ghost use Rattle.linear_algebra.specs.Field.{Gf};
+ghost use Rattle.linear_algebra.specs.Matrix.{Row, zeros, ◌·◌, transpose};
+ghost use Rattle.representations.specs.Quiver.{Quiver, Path, BoundQuiver, reverse, opposite_algebra};
+ghost use Rattle.representations.specs.Rep.{Rep, along, IsMod};
+ghost use Rattle.representations.specs.Hom.{Hom, ◌≫◌, identity, zero_hom, ◌⊕◌, multiple, power};
+ghost use Rattle.representations.specs.Module.{IsEpi, IsZero};
+ghost use Rattle.representations.specs.Radical.{IsInRadicalPower, IsInRadical, IsReachedModuloRadical};
+ghost use Rattle.representations.specs.Dual.{dual, dual_hom};
+
+/// Homomorphisms take the k-th power of the radical into the k-th power; the power zero is everything; the power of the bound is zero;
+/// and an endomorphism of a module that takes every row into the radical is nilpotent. (Chapter I, 3, and III, 2.)
+pub fn radical_powers()
+    ensures kept { (q : Gf) (Q : Quiver) (X Y : Rep q Q) (f : Hom X Y) (k w : ℕ) (x : Row q (X.dim w))
+        → IsInRadicalPower X k w x → IsInRadicalPower Y k w (x · f.at w) }
+    ensures whole { (q : Gf) (Q : Quiver) (X : Rep q Q) (w : ℕ) (x : Row q (X.dim w))
+        → IsInRadicalPower X 0 w x }
+    ensures ends { (q : Gf) (A : BoundQuiver) (X : Rep q A.quiver) → IsMod A X
+        → (w : ℕ) (x : Row q (X.dim w)) → IsInRadicalPower X A.bound w x
+        → x ≡ zeros q 1 (X.dim w) }
+    ensures nilpotent { (q : Gf) (A : BoundQuiver) (X : Rep q A.quiver) → IsMod A X → (e : Hom X X)
+        → ((v : ℕ) (x : Row q (X.dim v)) → IsInRadical X v (x · e.at v))
+        → power e A.bound ≡ zero_hom X X }
+{}
+
+/// Nakayama's lemma: a module that is its own radical is zero, and a homomorphism into a module that reaches each row up to the radical
+/// is surjective. (Chapter I, 2.2.)
+pub fn nakayama()
+    ensures zero { (q : Gf) (A : BoundQuiver) (X : Rep q A.quiver) → IsMod A X
+        → ((v : ℕ) (x : Row q (X.dim v)) → IsInRadical X v x) → IsZero X }
+    ensures surjective { (q : Gf) (A : BoundQuiver) (X Y : Rep q A.quiver) → IsMod A Y → (f : Hom X Y)
+        → ((v : ℕ) (y : Row q (Y.dim v)) → IsReachedModuloRadical f v y) → IsEpi f }
+{}
+
+/// The duality is an involution, turns composites round, is linear on homomorphisms, and takes modules over an algebra to modules over
+/// the opposite algebra. (Chapter I, 2.9.)
+pub fn duality()
+    ensures involution { (q : Gf) (Q : Quiver) (X : Rep q Q) → dual (dual X) ≡ X }
+    ensures involution_on_maps { (q : Gf) (Q : Quiver) (X Y : Rep q Q) (f : Hom X Y) (v : ℕ)
+        → (dual_hom (dual_hom f)).at v ≡ f.at v }
+    ensures turns_round { (q : Gf) (Q : Quiver) (X Y Z : Rep q Q) (f : Hom X Y) (g : Hom Y Z)
+        → dual_hom (f ≫ g) ≡ dual_hom g ≫ dual_hom f }
+    ensures identities { (q : Gf) (Q : Quiver) (X : Rep q Q) → dual_hom (identity X) ≡ identity (dual X) }
+    ensures sums { (q : Gf) (Q : Quiver) (X Y : Rep q Q) (f g : Hom X Y)
+        → dual_hom (f ⊕ g) ≡ dual_hom f ⊕ dual_hom g }
+    ensures multiples { (q : Gf) (Q : Quiver) (X Y : Rep q Q) (c : ℕ) (f : Hom X Y)
+        → dual_hom (multiple c f) ≡ multiple c (dual_hom f) }
+    ensures paths { (q : Gf) (Q : Quiver) (X : Rep q Q) (v w : ℕ) (p : Path Q v w)
+        → along (dual X) (reverse p) ≡ transpose (along X p) }
+    ensures modules { (q : Gf) (A : BoundQuiver) (X : Rep q A.quiver) → IsMod A X
+        → IsMod (opposite_algebra A) (dual X) }
+{}
