@@ -1,0 +1,9 @@
+pub mod Joining
+pub mod Names
+pub mod Clean
+pub mod Uniqueness
+pub mod Readers
+pub mod TermLemmas
+pub mod FormLemmas
+pub mod FrontLemmas
+pub mod WholeLemmas

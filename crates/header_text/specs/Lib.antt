@@ -1,0 +1,5 @@
+pub mod Spelling
+pub mod Named
+pub mod Reading
+pub mod Part
+pub mod Refused

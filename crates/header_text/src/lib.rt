@@ -1,0 +1,17 @@
+//! The lines of a header: their spelling, writing them, and reading them in the strict form.
+#![tactic(auto)]
+
+mod arguments;
+mod forms;
+mod reader;
+mod terms;
+mod tokens;
+mod writing;
+
+pub use forms::Form;
+pub use reader::{HeaderReader, one_header, read_header};
+pub use tokens::{arrow_place, read_path, vertex_place};
+pub use writing::{arrow_text, push_header, push_path, vertex_text};
+
+#[cfg(test)]
+mod tests;
