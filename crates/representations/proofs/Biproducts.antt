@@ -6,7 +6,7 @@ use Rattle.linear_algebra.specs.Field.{Gf}
 use Rattle.representations.specs.Quiver.{Quiver}
 use Rattle.representations.specs.Rep.{Rep}
 use Rattle.representations.specs.Hom.{Hom, ◌≫◌, identity, zero_hom, ◌⊕◌, sum_of}
-use Rattle.representations.specs.Module.{IsIso, Summand, Orthogonal, Biproduct}
+use Rattle.representations.specs.Module.{IsIso, Summand, summand_of, Orthogonal, Biproduct}
 use Rattle.representations.proofs.Homs.{compose_assoc, compose_identity, identity_compose, compose_zero, zero_compose, sum_zero, zero_sum, sum_assoc, compose_sum_of, sum_of_compose, sum_of-same}
 
 -- Sums of families of homomorphisms.
@@ -83,11 +83,11 @@ module _ {q : Gf} {Q : Quiver} {X : Rep q Q} {e : Hom X X} (B : Orthogonal e) wh
       ∙ compose_assoc s.projection s.injection s.projection ∙ ap (λ z. s.projection ≫ z) (B.same i h) ∙ compose_identity s.projection
 
 -- The same family, with its sum written otherwise.
-pub with_sum : {q : Gf} {Q : Quiver} {X : Rep q Q} {e d : Hom X X} → e ≡ d → Orthogonal e → Orthogonal d
+unfoldable pub with_sum : {q : Gf} {Q : Quiver} {X : Rep q Q} {e d : Hom X X} → e ≡ d → Orthogonal e → Orthogonal d
 with_sum h B = record { count = B.count; summand = B.summand; same = B.same; other = B.other; sum = B.sum ∙ h }
 
 -- One summand is an orthogonal family, and so is none.
-pub no_parts : {q : Gf} {Q : Quiver} (X : Rep q Q) → Orthogonal (zero_hom X X)
+unfoldable pub no_parts : {q : Gf} {Q : Quiver} (X : Rep q Q) → Orthogonal (zero_hom X X)
 no_parts X = record {
   count = 0;
   summand = λ i. record { part = X; injection = identity X; projection = identity X };
@@ -96,7 +96,7 @@ no_parts X = record {
   sum = sum_of-none (λ i. identity X ≫ identity X);
 }
 
-pub one_part : {q : Gf} {Q : Quiver} {X : Rep q Q} (s : Summand X) → s.injection ≫ s.projection ≡ identity s.part → Orthogonal (s.projection ≫ s.injection)
+unfoldable pub one_part : {q : Gf} {Q : Quiver} {X : Rep q Q} (s : Summand X) → s.injection ≫ s.projection ≡ identity s.part → Orthogonal (s.projection ≫ s.injection)
 one_part {X = X} s e = record {
   count = 1;
   summand = λ i. s;
@@ -193,7 +193,162 @@ carried {q} {Q} {X} s u {e} B = record {
     outer : {W : Rep q Q} (g : Hom s.part W) (f : Hom W s.part) → s.projection ≫ g ≫ (f ≫ s.injection) ≡ s.projection ≫ (g ≫ f) ≫ s.injection
     outer g f = compose_assoc s.projection g (f ≫ s.injection) ∙ ap (λ z. s.projection ≫ z) (sym (compose_assoc g f s.injection)) ∙ sym (compose_assoc s.projection (g ≫ f) s.injection)
 
+pub carried-count : {q : Gf} {Q : Quiver} {X : Rep q Q} (s : Summand X) (u : s.injection ≫ s.projection ≡ identity s.part) {e : Hom s.part s.part} (B : Orthogonal e) → (carried s u B).count ≡ B.count
+unfolding carried
+carried-count s u B = refl
+
+pub carried-part : {q : Gf} {Q : Quiver} {X : Rep q Q} (s : Summand X) (u : s.injection ≫ s.projection ≡ identity s.part) {e : Hom s.part s.part} (B : Orthogonal e) (j : ℕ) → ((carried s u B).summand j).part ≡ (B.summand j).part
+unfolding carried
+carried-part s u B j = refl
+
 -- A decomposition goes over an isomorphism.
 pub transported : {q : Gf} {Q : Quiver} {X Y : Rep q Q} (f : Hom X Y) → IsIso f → Biproduct X → Biproduct Y
 transported {X = X} f i B =
     with_sum (ap (λ z. z ≫ f) (compose_identity i.inverse) ∙ i.left) (carried (record { part = X; injection = f; projection = i.inverse }) i.right B)
+
+-- The first k parts, and the others.
+pub first_parts : {q : Gf} {Q : Quiver} {X : Rep q Q} {e : Hom X X} (B : Orthogonal e) (k : ℕ) → k ≤ B.count → Orthogonal (sum_of k (λ i. idempotent (B.summand i)))
+unfolding idempotent
+first_parts B k h = record { count = k; summand = B.summand; same = λ i l. B.same i (omega arith); other = λ i j l m d. B.other i j (omega arith) (omega arith) d; sum = refl }
+
+pub other_parts : {q : Gf} {Q : Quiver} {X : Rep q Q} {e : Hom X X} (B : Orthogonal e) (k : ℕ) → Orthogonal (sum_of (B.count - k) (λ i. idempotent (B.summand (k + i))))
+unfolding idempotent
+other_parts B k = record {
+  count = B.count - k;
+  summand = λ i. B.summand (k + i);
+  same = λ i l. B.same (k + i) (omega arith);
+  other = λ i j l m d. B.other (k + i) (k + j) (omega arith) (omega arith) (λ e. d (omega arith));
+  sum = refl;
+}
+
+-- Sums of idempotents of different parts annihilate one another.
+pub sums_apart : {q : Gf} {Q : Quiver} {X : Rep q Q} (m n : ℕ) (f g : ℕ → Hom X X) → ((i j : ℕ) → i < m → j < n → f i ≫ g j ≡ zero_hom X X) → sum_of m f ≫ sum_of n g ≡ zero_hom X X
+sums_apart {X = X} m n f g h =
+    sum_of_compose m f (sum_of n g)
+    ∙ sum_of-zeros m (λ i. f i ≫ sum_of n g) (λ i l. compose_sum_of n (f i) g ∙ sum_of-zeros n (λ j. f i ≫ g j) (λ j k. h i j l k))
+
+-- A part that is itself decomposed, in its place.
+module _ {q : Gf} {Q : Quiver} {X : Rep q Q} {e : Hom X X} (B : Orthogonal e) (i : ℕ) (h : i < B.count) (C : Biproduct (B.summand i).part) where
+  middle : Orthogonal (idempotent (B.summand i))
+  unfolding idempotent
+  middle = with_sum (ap (λ z. z ≫ (B.summand i).injection) (compose_identity (B.summand i).projection)) (carried (B.summand i) (B.same i h) C)
+
+  before_sum : Hom X X
+  before_sum = sum_of i (λ j. idempotent (B.summand j))
+
+  after_sum : Hom X X
+  after_sum = sum_of (B.count - suc i) (λ j. idempotent (B.summand (suc i + j)))
+
+  up_to : Orthogonal (before_sum ⊕ idempotent (B.summand i))
+  unfolding before_sum
+  up_to = join_parts (first_parts B i (omega arith)) middle
+      (sum_of_compose i (λ j. idempotent (B.summand j)) (idempotent (B.summand i))
+      ∙ sum_of-zeros i _ (λ j l. idempotents_other B j i (omega arith) h (omega arith)))
+      (compose_sum_of i (idempotent (B.summand i)) (λ j. idempotent (B.summand j))
+      ∙ sum_of-zeros i _ (λ j l. idempotents_other B i j h (omega arith) (omega arith)))
+
+  ahead : before_sum ⊕ idempotent (B.summand i) ≡ sum_of (suc i) (λ j. idempotent (B.summand j))
+  unfolding before_sum
+  ahead = sym (sum_of-suc i (λ j. idempotent (B.summand j)))
+
+  pub refined : Orthogonal e
+  unfolding after_sum
+  refined = with_sum
+      (sym (sum_of-add (suc i) (B.count - suc i) (λ j. idempotent (B.summand j))) ∙ (let same : suc i + (B.count - suc i) ≡ B.count = omega arith in ap (λ n. sum_of n (λ j. idempotent (B.summand j))) same) ∙ sum_is B)
+      (join_parts (with_sum ahead up_to) (other_parts B (suc i))
+      (sums_apart (suc i) (B.count - suc i) (λ j. idempotent (B.summand j)) (λ j. idempotent (B.summand (suc i + j))) (λ j k l m. idempotents_other B j (suc i + k) (omega arith) (omega arith) (omega arith)))
+      (sums_apart (B.count - suc i) (suc i) (λ j. idempotent (B.summand (suc i + j))) (λ j. idempotent (B.summand j)) (λ j k l m. idempotents_other B (suc i + j) k (omega arith) (omega arith) (omega arith))))
+
+-- The parts in another order.
+module _ {q : Gf} {Q : Quiver} {X : Rep q Q} {e : Hom X X} (B : Orthogonal e) (s t : ℕ → ℕ)
+    (s_below : (i : ℕ) → i < B.count → s i < B.count) (t_below : (i : ℕ) → i < B.count → t i < B.count)
+    (s_t : (i : ℕ) → i < B.count → s (t i) ≡ i) (t_s : (i : ℕ) → i < B.count → t (s i) ≡ i) where
+  apart : (i j : ℕ) → i < B.count → j < B.count → i ≢ j → s i ≢ s j
+  apart i j h k d c = d (sym (t_s i h) ∙ ap t c ∙ t_s j k)
+
+  reordered : Hom X X
+  reordered = sum_of B.count (λ i. idempotent (B.summand (s i)))
+
+  idempotent_reordered : (j : ℕ) → j < B.count → idempotent (B.summand j) ≫ reordered ≡ idempotent (B.summand j)
+  unfolding reordered
+  idempotent_reordered j h =
+      compose_sum_of B.count (idempotent (B.summand j)) (λ i. idempotent (B.summand (s i)))
+      ∙ sum_of-single B.count (t j) (λ i. idempotent (B.summand j) ≫ idempotent (B.summand (s i))) (t_below j h)
+      (λ i l d. idempotents_other B j (s i) h (s_below i l) (λ c. d (sym (t_s i l) ∙ ap t (sym c))))
+      ∙ ap (λ i. idempotent (B.summand j) ≫ idempotent (B.summand i)) (s_t j h) ∙ idempotent_again B j h
+
+  whole_reordered : e ≫ reordered ≡ reordered
+  unfolding reordered idempotent
+  whole_reordered =
+      compose_sum_of B.count e (λ i. idempotent (B.summand (s i)))
+      ∙ sum_of-same B.count _ _ (λ i l. sym (compose_assoc e (B.summand (s i)).projection (B.summand (s i)).injection) ∙ ap (λ z. z ≫ (B.summand (s i)).injection) (whole_projection B (s i) (s_below i l)))
+
+  same_sum : reordered ≡ e
+  same_sum =
+      sym whole_reordered ∙ ap (λ z. z ≫ reordered) (sym (sum_is B)) ∙ sum_of_compose B.count (λ i. idempotent (B.summand i)) reordered
+      ∙ sum_of-same B.count _ _ (λ j l. idempotent_reordered j l) ∙ sum_is B
+
+  pub permuted : Orthogonal e
+  unfolding reordered idempotent
+  permuted = record {
+    count = B.count;
+    summand = λ i. B.summand (s i);
+    same = λ i h. B.same (s i) (s_below i h);
+    other = λ i j h k d. B.other (s i) (s j) (s_below i h) (s_below j k) (apart i j h k d);
+    sum = same_sum;
+  }
+
+-- What these constructions consist of.
+pub join_parts-first : {q : Gf} {Q : Quiver} {X : Rep q Q} {e d : Hom X X} (B : Orthogonal e) (C : Orthogonal d) (y : e ≫ d ≡ zero_hom X X) (z : d ≫ e ≡ zero_hom X X) (j : ℕ) → j < B.count → (join_parts B C y z).summand j ≡ B.summand j
+unfolding join_parts
+join_parts-first B C y z j h = sym (joined-first B.count B.summand C.summand j h)
+
+pub join_parts-second : {q : Gf} {Q : Quiver} {X : Rep q Q} {e d : Hom X X} (B : Orthogonal e) (C : Orthogonal d) (y : e ≫ d ≡ zero_hom X X) (z : d ≫ e ≡ zero_hom X X) (j : ℕ) → (join_parts B C y z).summand (B.count + j) ≡ C.summand j
+unfolding join_parts
+join_parts-second B C y z j =
+    sym (joined-second B.count B.summand C.summand (B.count + j) (omega arith)) ∙ (let same : B.count + j - B.count ≡ j = omega arith in ap C.summand same)
+
+pub join_parts-count : {q : Gf} {Q : Quiver} {X : Rep q Q} {e d : Hom X X} (B : Orthogonal e) (C : Orthogonal d) (y : e ≫ d ≡ zero_hom X X) (z : d ≫ e ≡ zero_hom X X) → (join_parts B C y z).count ≡ B.count + C.count
+unfolding join_parts
+join_parts-count B C y z = refl
+
+module _ {q : Gf} {Q : Quiver} {X : Rep q Q} {e : Hom X X} (B : Orthogonal e) (i : ℕ) (h : i < B.count) (C : Biproduct (B.summand i).part) where
+  pub refined-count : (refined B i h C).count ≡ i + C.count + (B.count - suc i)
+  unfolding refined join_parts with_sum up_to middle carried first_parts other_parts
+  refined-count = refl
+
+  pub refined_before : (j : ℕ) → j < i → (refined B i h C).summand j ≡ B.summand j
+  unfolding refined join_parts with_sum up_to middle carried first_parts other_parts
+  refined_before j l =
+      sym (joined-first (i + C.count) _ _ j (omega arith)) ∙ sym (joined-first i _ _ j l)
+
+  pub refined_within : (j : ℕ) → j < C.count → (refined B i h C).summand (i + j) ≡ summand_of (B.summand i) (C.summand j)
+  unfolding refined join_parts with_sum up_to middle carried first_parts other_parts
+  refined_within j l =
+      let same : i + j - i ≡ j = omega arith in
+      sym (joined-first (i + C.count) _ _ (i + j) (omega arith)) ∙ sym (joined-second i _ _ (i + j) (omega arith)) ∙ ap (λ j. summand_of (B.summand i) (C.summand j)) same
+
+  pub refined_after : (j : ℕ) → (refined B i h C).summand (i + C.count + j) ≡ B.summand (suc i + j)
+  unfolding refined join_parts with_sum up_to middle carried first_parts other_parts
+  refined_after j =
+      let same : i + C.count + j - (i + C.count) ≡ j = omega arith in
+      sym (joined-second (i + C.count) _ _ (i + C.count + j) (omega arith)) ∙ ap (λ j. B.summand (suc i + j)) same
+
+pub transported-summand : {q : Gf} {Q : Quiver} {X Y : Rep q Q} (f : Hom X Y) (i : IsIso f) (B : Biproduct X) (j : ℕ) → (transported f i B).summand j ≡ summand_of (record { part = X; injection = f; projection = i.inverse }) (B.summand j)
+unfolding transported with_sum carried
+transported-summand f i B j = refl
+
+pub transported-count : {q : Gf} {Q : Quiver} {X Y : Rep q Q} (f : Hom X Y) (i : IsIso f) (B : Biproduct X) → (transported f i B).count ≡ B.count
+unfolding transported with_sum carried
+transported-count f i B = refl
+
+module _ {q : Gf} {Q : Quiver} {X : Rep q Q} {e : Hom X X} (B : Orthogonal e) (s t : ℕ → ℕ)
+    (s_below : (i : ℕ) → i < B.count → s i < B.count) (t_below : (i : ℕ) → i < B.count → t i < B.count)
+    (s_t : (i : ℕ) → i < B.count → s (t i) ≡ i) (t_s : (i : ℕ) → i < B.count → t (s i) ≡ i) where
+  pub permuted-count : (permuted B s t s_below t_below s_t t_s).count ≡ B.count
+  unfolding permuted
+  permuted-count = refl
+
+  pub permuted-summand : (j : ℕ) → (permuted B s t s_below t_below s_t t_s).summand j ≡ B.summand (s j)
+  unfolding permuted
+  permuted-summand j = refl

@@ -11,8 +11,9 @@ use Rattle.linear_algebra.proofs.Blocks.{no_rows_zeros}
 use Rattle.linear_algebra.proofs.Solutions.{unflatten_flatten_all, flatten_unflatten_all, flatten_all-same, flatten_all-sum, flatten_all-scale, solution_basis}
 use Rattle.representations.specs.Quiver.{Quiver}
 use Rattle.representations.specs.Rep.{Rep}
-use Rattle.representations.specs.Hom.{Hom, Hom-eq, ◌⊕◌, multiple}
+use Rattle.representations.specs.Hom.{Hom, Hom-eq, ◌⊕◌, multiple, ◌≫◌}
 use Rattle.representations.proofs.MatrixExtras.{flatten_all-zeros}
+use Rattle.representations.proofs.Homs.{compose_sum, sum_compose, compose_multiple, multiple_compose}
 use Rattle.representations.specs.HomSpace.{unknowns, flat, HomBasis}
 
 module _ {q : Gf} {Q : Quiver} where
@@ -151,3 +152,47 @@ module _ {q : Gf} {Q : Quiver} (X Y : Rep q Q) where
         spans = λ f. S.spans (flat f) (hom_defects f);
         once = S.once;
       }
+
+-- Coordinates in a basis of the homomorphisms; they are linear, and determine the homomorphism.
+module _ {q : Gf} {Q : Quiver} {X Y : Rep q Q} (B : HomBasis X Y) where
+  pub coordinates : Hom X Y → Row q B.size
+  coordinates f = (B.spans f).by
+
+  pub hom-coordinates : (f : Hom X Y) → B.hom (coordinates f) ≡ f
+  unfolding coordinates
+  hom-coordinates f = flat_injective X Y (B.hom (B.spans f).by) f (B.hom_flat (B.spans f).by ∙ (B.spans f).is)
+
+  pub coordinates-hom : (c : Row q B.size) → coordinates (B.hom c) ≡ c
+  unfolding coordinates
+  coordinates-hom c = B.once (B.spans (B.hom c)).by c ((B.spans (B.hom c)).is ∙ B.hom_flat c)
+
+  pub coordinates-sum : (f g : Hom X Y) → coordinates (f ⊕ g) ≡ coordinates f ⊞ coordinates g
+  unfolding coordinates
+  coordinates-sum f g = B.once (B.spans (f ⊕ g)).by ((B.spans f).by ⊞ (B.spans g).by)
+      ((B.spans (f ⊕ g)).is ∙ flat-sum X Y f g ∙ sym (ap₂ (λ a b. a ⊞ b) (B.spans f).is (B.spans g).is) ∙ sym (add_mul_mat (B.spans f).by (B.spans g).by B.basis))
+
+  pub coordinates-multiple : (c : ℕ) (f : Hom X Y) → coordinates (multiple c f) ≡ c ⊙ coordinates f
+  unfolding coordinates
+  coordinates-multiple c f = B.once (B.spans (multiple c f)).by (c ⊙ (B.spans f).by)
+      ((B.spans (multiple c f)).is ∙ flat-multiple X Y c f ∙ sym (ap (λ a. c ⊙ a) (B.spans f).is) ∙ sym (scale_mul c (B.spans f).by B.basis))
+
+pub hom_sum : {q : Gf} {Q : Quiver} {X Y : Rep q Q} (B : HomBasis X Y) (c d : Row q B.size) → B.hom (c ⊞ d) ≡ B.hom c ⊕ B.hom d
+hom_sum {X = X} {Y = Y} B c d = flat_injective X Y (B.hom (c ⊞ d)) (B.hom c ⊕ B.hom d)
+    (B.hom_flat (c ⊞ d) ∙ add_mul_mat c d B.basis ∙ sym (ap₂ (λ a b. a ⊞ b) (B.hom_flat c) (B.hom_flat d)) ∙ sym (flat-sum X Y (B.hom c) (B.hom d)))
+
+pub hom_scale : {q : Gf} {Q : Quiver} {X Y : Rep q Q} (B : HomBasis X Y) (n : ℕ) (c : Row q B.size) → B.hom (n ⊙ c) ≡ multiple n (B.hom c)
+hom_scale {X = X} {Y = Y} B n c = flat_injective X Y (B.hom (n ⊙ c)) (multiple n (B.hom c))
+    (B.hom_flat (n ⊙ c) ∙ scale_mul n c B.basis ∙ sym (ap (λ a. n ⊙ a) (B.hom_flat c)) ∙ sym (flat-multiple X Y n (B.hom c)))
+
+-- Products of basis members: in coordinates composition is linear in each factor.
+pub compose_linear_left : {q : Gf} {Q : Quiver} {X Y Z : Rep q Q} (B : HomBasis X Y) (C : HomBasis X Z) (g : Hom Y Z) → IsLinear (λ (c : Row q B.size). coordinates C (B.hom c ≫ g))
+compose_linear_left {X = X} {Y = Y} B C g = record {
+  sum = λ c d. ap (λ f. coordinates C (f ≫ g)) (hom_sum B c d) ∙ ap (coordinates C) (sum_compose (B.hom c) (B.hom d) g) ∙ coordinates-sum C (B.hom c ≫ g) (B.hom d ≫ g);
+  multiple = λ n c. ap (λ f. coordinates C (f ≫ g)) (hom_scale B n c) ∙ ap (coordinates C) (multiple_compose n (B.hom c) g) ∙ coordinates-multiple C n (B.hom c ≫ g);
+}
+
+pub compose_linear_right : {q : Gf} {Q : Quiver} {X Y Z : Rep q Q} (B : HomBasis Y Z) (C : HomBasis X Z) (f : Hom X Y) → IsLinear (λ (c : Row q B.size). coordinates C (f ≫ B.hom c))
+compose_linear_right B C f = record {
+  sum = λ c d. ap (λ g. coordinates C (f ≫ g)) (hom_sum B c d) ∙ ap (coordinates C) (compose_sum f (B.hom c) (B.hom d)) ∙ coordinates-sum C (f ≫ B.hom c) (f ≫ B.hom d);
+  multiple = λ n c. ap (λ g. coordinates C (f ≫ g)) (hom_scale B n c) ∙ ap (coordinates C) (compose_multiple n f (B.hom c)) ∙ coordinates-multiple C n (f ≫ B.hom c);
+}

@@ -8,5 +8,8 @@ pub mod Kernels
 pub mod MatrixExtras
 pub mod Paths
 pub mod Radical
+pub mod RadicalModule
+pub mod RepEqual
 pub mod Submodules
+pub mod SumFamilies
 pub mod Sums

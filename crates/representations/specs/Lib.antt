@@ -6,6 +6,8 @@ pub mod Kernel
 pub mod Module
 pub mod Quiver
 pub mod Radical
+pub mod RadicalModule
 pub mod Rep
+pub mod StackSpans
 pub mod Submodule
 pub mod Sum

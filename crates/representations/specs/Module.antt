@@ -49,6 +49,10 @@ pub record Summand {q : Gf} {Q : Quiver} (X : Rep q Q) : Type 0 where
   pub injection : Hom part X
   pub projection : Hom X part
 
+-- A summand t of the part of s, as a summand of the whole.
+abbrev pub summand_of : {q : Gf} {Q : Quiver} {X : Rep q Q} (s : Summand X) → Summand s.part → Summand X
+summand_of s t = record { part = t.part; injection = t.injection ≫ s.injection; projection = s.projection ≫ t.projection }
+
 -- Summands that are orthogonal to one another; `whole` is the sum of the idempotents that they give.
 pub record Orthogonal {q : Gf} {Q : Quiver} {X : Rep q Q} (whole : Hom X X) : Type 0 where
   pub count : ℕ

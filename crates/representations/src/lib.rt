@@ -4,5 +4,6 @@
 #![tactic(auto)]
 
 pub mod constructions;
+pub mod decompositions;
 pub mod homomorphisms;
 pub mod radicals;

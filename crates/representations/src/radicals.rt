@@ -9,6 +9,8 @@ ghost use Rattle.representations.specs.Hom.{Hom, ◌≫◌, identity, zero_hom, 
 ghost use Rattle.representations.specs.Module.{IsEpi, IsZero};
 ghost use Rattle.representations.specs.Radical.{IsInRadicalPower, IsInRadical, IsReachedModuloRadical};
 ghost use Rattle.representations.specs.Dual.{dual, dual_hom};
+ghost use Rattle.linear_algebra.specs.Rank.{IsInSpan};
+ghost use Rattle.representations.specs.RadicalModule.{radical};
 
 /// Homomorphisms take the k-th power of the radical into the k-th power; the power zero is everything; the power of the bound is zero;
 /// and an endomorphism of a module that takes every row into the radical is nilpotent. (Chapter I, 3, and III, 2.)
@@ -23,6 +25,14 @@ pub fn radical_powers()
     ensures nilpotent { (q : Gf) (A : BoundQuiver) (X : Rep q A.quiver) → IsMod A X → (e : Hom X X)
         → ((v : ℕ) (x : Row q (X.dim v)) → IsInRadical X v (x · e.at v))
         → power e A.bound ≡ zero_hom X X }
+{}
+
+/// The radical is a submodule: its rows are the combinations of the basis. (Chapter III, 2.2.)
+pub fn radical_module()
+    ensures has { (q : Gf) (Q : Quiver) (X : Rep q Q) (w : ℕ) (x : Row q (X.dim w)) → IsInRadical X w x
+        → IsInSpan ((radical X).basis w) x }
+    ensures is_had { (q : Gf) (Q : Quiver) (X : Rep q Q) (w : ℕ) (x : Row q (X.dim w))
+        → IsInSpan ((radical X).basis w) x → IsInRadical X w x }
 {}
 
 /// Nakayama's lemma: a module that is its own radical is zero, and a homomorphism into a module that reaches each row up to the radical
