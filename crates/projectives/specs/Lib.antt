@@ -1,0 +1,4 @@
+pub mod Families
+pub mod Projective
+pub mod Words
+pub mod Yoneda
