@@ -1,0 +1,33 @@
+//! The calculator: reads a script from standard input and writes its report to standard output.
+#![tactic(auto)]
+
+mod answering;
+mod first_form;
+mod outcome;
+mod reports;
+mod running;
+
+use quiv_io::{ReaderSource, WriterSink};
+use running::quiv;
+use std::alloc::{AllocError, Global};
+use std::process::ExitCode;
+use std::{env, io};
+
+/// The words behind the program's name, where the system gives them.
+fn words_of(rt: &HostRuntime) -> Option<Vec<String>> {
+    let args = env::args(rt).ok()?;
+    args.skip(1).collect(rt.alloc()).ok()
+}
+
+fn main(rt: HostRuntime) -> ExitCode {
+    let Some(words) = words_of(&rt) else {
+        return ExitCode::from(10);
+    };
+    let mut source = ReaderSource::new(rt.stdin());
+    let mut sink = WriterSink::new(rt.stdout());
+    let outcome = quiv(rt.alloc(), words.as_slice(), &mut source, &mut sink);
+    ExitCode::from(outcome.status())
+}
+
+#[cfg(test)]
+mod tests;
