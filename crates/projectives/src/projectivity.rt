@@ -1,10 +1,10 @@
 //! The laws of projective modules. Chapters are those of Assem, Simson, Skowroński, volume 1.
 
-ghost use Rattle.std.specs.Prelude.{◌≡◌, ◌<◌, ℕ};
+ghost use Rattle.std.specs.Prelude.{◌≡◌, ◌<◌, ℕ, suc};
 ghost use Rattle.linear_algebra.specs.Field.{Gf};
 ghost use Rattle.linear_algebra.specs.Matrix.{Row, ◌·◌, ◌⊞◌, ◌⊙◌};
 ghost use Rattle.linear_algebra.specs.Rank.{IsInSpan};
-ghost use Rattle.representations.specs.Quiver.{BoundQuiver};
+ghost use Rattle.representations.specs.Quiver.{BoundQuiver, path_length};
 ghost use Rattle.representations.specs.Rep.{Rep, IsMod};
 ghost use Rattle.representations.specs.Hom.{Hom, ◌≫◌, ◌⊕◌, multiple};
 ghost use Rattle.representations.specs.Module.{IsEpi};
@@ -12,6 +12,8 @@ ghost use Rattle.projectives.specs.Words.{Words, IsWordBasis, projective};
 ghost use Rattle.projectives.specs.Projective.{generator};
 ghost use Rattle.projectives.specs.Yoneda.{yoneda};
 ghost use Rattle.projectives.specs.Families.{projectives, generator_of};
+ghost use Rattle.linear_algebra.specs.Parts.{unit};
+ghost use Rattle.representations.specs.Radical.{IsInRadical};
 
 /// Yoneda's lemma: the homomorphisms from the projective module at v to a module X are the rows of X at v. `yoneda x` takes the generator
 /// to x, each homomorphism is such, and this is linear and natural. (Chapter I, 4.2, and III, 2.)
@@ -64,4 +66,11 @@ pub fn lifting()
         (v : ℕ → ℕ) (Y Z : Rep q A.quiver)
         → IsMod A Y → IsMod A Z → (f : Hom Y Z) → IsEpi f → (u : Hom (projectives W k v) Z)
         → (h : Hom (projectives W k v) Y) × (h ≫ f ≡ u) }
+{}
+
+/// A word of at least one arrow lies in the radical of the projective module. (Chapter III, 2.4.)
+pub fn words_in_radical()
+    ensures { (q : Gf) (A : BoundQuiver) (W : Words q A.quiver) (B : IsWordBasis A W) (v w i k : ℕ)
+        → i < W.count v w → ((h : i < W.count v w) → path_length (W.word v w i h) ≡ suc k)
+        → IsInRadical (projective W v) w (unit q (W.count v w) i) }
 {}
