@@ -1,0 +1,9 @@
+pub mod Tokens
+pub mod Arguments
+pub mod Statements
+pub mod Relations
+pub mod Lines
+pub mod Parts
+pub mod Scripts
+pub mod Refusals
+pub mod Determined
