@@ -25,6 +25,7 @@ pub mod RankExists
 pub mod Ranks
 pub mod Reduced
 pub mod ReducedSpans
+pub mod Remainders
 pub mod RowForm
 pub mod RowFormUnique
 pub mod RowSteps

@@ -4,4 +4,5 @@
 #![tactic(auto)]
 
 pub mod fields;
+pub mod lists;
 pub mod matrices;
