@@ -12,3 +12,11 @@ pub mod FreeColumns
 pub mod Collecting
 pub mod FreePaths
 pub mod AllRows
+pub mod SumsOver
+pub mod Acting
+pub mod Occurrences
+pub mod IdealProducts
+pub mod Reducing
+pub mod Independent
+pub mod IdealActs
+pub mod IdealSteps
