@@ -10,7 +10,7 @@ use Rattle.quiver_paths.specs.declared.Path.{Path}
 use Rattle.quiver_paths.specs.Path.{IsPath, path_length, Meets, concat, trivial_path}
 use Rattle.quiver_paths.specs.PathOrder.{IsAscending}
 use Rattle.quiver_paths.specs.PathList.{paths_below}
-use Rattle.quiver_paths.proofs.ListLemmas.{Contains-head, Contains-behind, Contains-cons_cases, Contains-nil, Contains-from_map, AllPairs-head}
+use Rattle.quiver_paths.proofs.ListLemmas.{Contains-head, Contains-behind, Contains-cons_cases, Contains-nil, Contains-from_map, AllPairs-head, AllPairs-tail}
 use Rattle.quiver_paths.proofs.PathLemmas.{IsPath-concat, IsPath-trivial, cut}
 use Rattle.quiver_paths.proofs.PathListLemmas.{lists_paths_below}
 use Rattle.alg_table.specs.declared.Term.{Term}
@@ -41,6 +41,22 @@ product-terms h u v (a ∷ terms) m p =
     ∙ ap₂ (add h.field) (product-path h.field h.bound a.coef u a.path v p meets.0 meets.1) (product-terms h u v terms (λ b c. m b (Contains-behind a terms b c)) p)
     ∙ sym (sum_over-cons h.field a terms _)
 
+-- any two of parallel terms
+pub parallel_terms : (terms : List Term) → AllPairs (λ (a b : Term). IsParallel a.path b.path) terms → (a b : Term) → Contains terms a → Contains terms b → IsParallel a.path b.path
+parallel_terms [] par a b m n = absurd (Contains-nil a m)
+parallel_terms (x ∷ rest) par a b m n = elim (Contains-cons_cases x rest a m) [
+  | inl e ↦ elim (Contains-cons_cases x rest b n) [
+    | inl f ↦ record { starts = ap (λ (y : Term). y.path.start) (sym e ∙ f); ends = ap (λ (y : Term). y.path.end) (sym e ∙ f) }
+    | inr n2 ↦ let p = AllPairs-head (λ (y z : Term). IsParallel y.path z.path) x rest par b n2 in
+        record { starts = ap (λ (y : Term). y.path.start) (sym e) ∙ p.starts; ends = ap (λ (y : Term). y.path.end) (sym e) ∙ p.ends }
+  ]
+  | inr m2 ↦ elim (Contains-cons_cases x rest b n) [
+    | inl f ↦ let p = AllPairs-head (λ (y z : Term). IsParallel y.path z.path) x rest par a m2 in
+        record { starts = sym p.starts ∙ ap (λ (y : Term). y.path.start) f; ends = sym p.ends ∙ ap (λ (y : Term). y.path.end) f }
+    | inr n2 ↦ parallel_terms rest (AllPairs-tail (λ (y z : Term). IsParallel y.path z.path) x rest par) a b m2 n2
+  ]
+]
+
 -- the terms of a relation all meet the two paths, or its product with them is zero
 record MeetsTerms (u v : Path) (terms : List Term) : Type 0 where
   meets : (a : Term) → Contains terms a → (u.end ≡ a.path.start) × (a.path.end ≡ v.start)
@@ -48,12 +64,6 @@ record MeetsTerms (u v : Path) (terms : List Term) : Type 0 where
 cases_meet : (h : Header) (u v : Path) (r : Relation) → IsRelation h r → MeetsTerms u v r.terms ⊎ ((p : Path) → product_between h.bound u (relation_element h r) v p ≡ 0)
 cases_meet h u v r is = go r.terms is.terms is.parallel
   where
-    parallel_to : (a : Term) (rest : List Term) → AllPairs (λ (b c : Term). IsParallel b.path c.path) (a ∷ rest) → (b : Term) → Contains (a ∷ rest) b → IsParallel a.path b.path
-    parallel_to a rest par b m = elim (Contains-cons_cases a rest b m) [
-      | inl e ↦ subst (λ (x : Term). IsParallel a.path x.path) e (record { starts = refl; ends = refl })
-      | inr c ↦ AllPairs-head (λ (x y : Term). IsParallel x.path y.path) a rest par b c
-    ]
-
     apart : (a : Term) (rest : List Term) → All (IsTerm h) (a ∷ rest) → AllPairs (λ (b c : Term). IsParallel b.path c.path) (a ∷ rest)
         → ((u.end ≡ a.path.start) → (a.path.end ≡ v.start) → ⊥) → (p : Path) → product_between h.bound u (sum_of_terms h.field h.bound (a ∷ rest)) v p ≡ 0
     apart a rest lawful par d p = elim (cases_eq (product_between h.bound u (sum_of_terms h.field h.bound (a ∷ rest)) v p) 0) [
@@ -61,7 +71,7 @@ cases_meet h u v r is = go r.terms is.terms is.parallel
       | inr n ↦
           let o = product_support h.bound u (sum_of_terms h.field h.bound (a ∷ rest)) v p n in
           let found = Contains-from_map (λ (x : Term). x.path) (a ∷ rest) (middle u v p) (terms_support h (a ∷ rest) (middle u v p) lawful o.nonzero) in
-          let par_to = parallel_to a rest par found.0 found.1 in
+          let par_to = parallel_terms (a ∷ rest) par a found.0 (Contains-head a rest) found.1 in
           absurd (d (middle-start u v p ∙ sym (ap (λ (x : Path). x.start) found.2) ∙ sym par_to.starts)
           (par_to.ends ∙ ap (λ (x : Path). x.end) found.2 ∙ middle-end u v p))
     ]
@@ -73,7 +83,7 @@ cases_meet h u v r is = go r.terms is.terms is.parallel
       | inr d ↦ inr (apart a rest lawful par (λ e f. d e))
       | inl e ↦ elim (cases_eq a.path.end v.start) [
         | inr d ↦ inr (apart a rest lawful par (λ e f. d f))
-        | inl f ↦ inl (record { meets = λ b m. let q = parallel_to a rest par b m in (e ∙ q.starts, sym q.ends ∙ f) })
+        | inl f ↦ inl (record { meets = λ b m. let q = parallel_terms (a ∷ rest) par a b (Contains-head a rest) m in (e ∙ q.starts, sym q.ends ∙ f) })
       ]
     ]
 

@@ -9,11 +9,13 @@ use Rattle.linear_algebra.specs.FieldLaws.{mul_zero}
 use Rattle.quiver_paths.specs.declared.Path.{Path}
 use Rattle.quiver_paths.specs.Path.{IsPath, path_length, concat, trivial_path}
 use Rattle.quiver_paths.proofs.PathLemmas.{IsPath-concat, path_length-concat, concat_assoc}
+use Rattle.alg_table.specs.declared.Relation.{Relation}
 use Rattle.alg_table.specs.declared.Header.{Header}
 use Rattle.alg_table.specs.Elements.{runs_between, middle, product_between}
 use Rattle.alg_table.specs.Ideals.{Summand, IsSummand, relation_element, summand_element, sum_of_summands, IsInIdeal}
 use Rattle.alg_table.proofs.Between.{composite, runs_between-composite, composite-middle, middle-start, middle-end}
 use Rattle.alg_table.proofs.ElementLemmas.{product-composite, product-long, product-outside, product_support, product-add}
+use Rattle.alg_table.proofs.SumsOver.{IsLinear, linear-same, linear-zero}
 use Rattle.alg_table.proofs.IdealLemmas.{IsInIdeal-same, IsInIdeal-zero, IsInIdeal-add, IsInIdeal-mul, IsInIdeal-product}
 
 -- the ends of a path that runs between two
@@ -82,34 +84,40 @@ product-mul q t c u x v p = elim (cases_Bool (ltb (path_length p) t && runs_betw
   | inr e ↦ rw e (sym (mul_zero q c))
 ]
 
-summand_between : (h : Header) (u v : Path) → IsPath h.quiver u → IsPath h.quiver v → (s : Summand) → IsSummand h s
-    → IsInIdeal h (product_between h.bound u (summand_element h s) v)
-unfolding summand_element
-summand_between h u v hu hv s l =
-    let inner : Path → ℕ = product_between h.bound s.left (relation_element h s.relation) s.right in
-    let scaled : (p : Path) → product_between h.bound u (λ r. mul h.field s.coefficient (inner r)) v p ≡ mul h.field s.coefficient (product_between h.bound u inner v p) =
-    product-mul h.field h.bound s.coefficient u inner v in
-    elim (cases_eq u.end s.left.start) [
-      | inr d ↦ IsInIdeal-same h (λ _. 0) _ (λ p. scaled p ∙ ap (mul h.field s.coefficient) (product-product_apart h.bound u s.left (relation_element h s.relation) s.right v (inl d) p) ∙ mul_zero h.field s.coefficient) (IsInIdeal-zero h)
-      | inl a ↦ elim (cases_eq s.right.end v.start) [
-        | inr d ↦ IsInIdeal-same h (λ _. 0) _ (λ p. scaled p ∙ ap (mul h.field s.coefficient) (product-product_apart h.bound u s.left (relation_element h s.relation) s.right v (inr d) p) ∙ mul_zero h.field s.coefficient) (IsInIdeal-zero h)
-        | inl b ↦ IsInIdeal-same h (λ p. mul h.field s.coefficient (product_between h.bound (concat u s.left) (relation_element h s.relation) (concat s.right v) p)) _
-            (λ p. scaled p ∙ ap (mul h.field s.coefficient) (product-product h.bound u s.left (relation_element h s.relation) s.right v a b p))
-            (IsInIdeal-mul h s.coefficient _ (IsInIdeal-product h (concat u s.left) (concat s.right v) s.relation
-            (IsPath-concat h.quiver u s.left hu l.left a) l.relation (IsPath-concat h.quiver s.right v l.right hv b)))
-      ]
-    ]
-
 pub product-nothing : (t : ℕ) (u v p : Path) → product_between t u (λ _. 0) v p ≡ 0
 product-nothing t u v p = elim (cases_eq (product_between t u (λ _. 0) v p) 0) [ inl z ↦ z | inr n ↦ absurd ((product_support t u (λ _. 0) v p n).nonzero refl) ]
 
-summands_between : (h : Header) (u v : Path) → IsPath h.quiver u → IsPath h.quiver v → (summands : List Summand) → All (IsSummand h) summands
-    → IsInIdeal h (product_between h.bound u (sum_of_summands h summands) v)
-unfolding sum_of_summands
-summands_between h u v hu hv [] l = IsInIdeal-same h (λ _. 0) _ (product-nothing h.bound u v) (IsInIdeal-zero h)
-summands_between h u v hu hv (s ∷ rest) l = IsInIdeal-same h _ _ (λ p. product-add h.field h.bound u (summand_element h s) (sum_of_summands h rest) v p)
-    (IsInIdeal-add h _ _ (summand_between h u v hu hv s (All-head (IsSummand h) s rest l)) (summands_between h u v hu hv rest (All-tail (IsSummand h) s rest l)))
+-- What is linear and takes each product u·r·v to a member of the ideal takes members to members.
+pub IsInIdeal-linear : (h : Header) (L : (Path → ℕ) → Path → ℕ) → IsLinear h.field L
+    → ((u v : Path) (r : Relation) → IsPath h.quiver u → Contains h.relations r → IsPath h.quiver v → IsInIdeal h (L (product_between h.bound u (relation_element h r) v)))
+    → (x : Path → ℕ) → IsInIdeal h x → IsInIdeal h (L x)
+unfolding sum_of_summands summand_element
+IsInIdeal-linear h L l f x m = IsInIdeal-same h (L (sum_of_summands h m.summands)) (L x) (linear-same L x (sum_of_summands h m.summands) m.value) (all m.summands m.lawful)
+  where
+    all : (summands : List Summand) → All (IsSummand h) summands → IsInIdeal h (L (sum_of_summands h summands))
+    all [] a = IsInIdeal-same h (λ _. 0) _ (linear-zero h.field L l) (IsInIdeal-zero h)
+    all (s ∷ rest) a =
+        let lawful = All-head (IsSummand h) s rest a in
+        let inner : Path → ℕ = product_between h.bound s.left (relation_element h s.relation) s.right in
+        IsInIdeal-same h (λ p. add h.field (L (λ r. mul h.field s.coefficient (inner r)) p) (L (sum_of_summands h rest) p)) _
+        (l.adds (λ r. mul h.field s.coefficient (inner r)) (sum_of_summands h rest))
+        (IsInIdeal-add h _ _ (IsInIdeal-same h (λ p. mul h.field s.coefficient (L inner p)) _ (l.scales s.coefficient inner)
+        (IsInIdeal-mul h s.coefficient (L inner) (f s.left s.right s.relation lawful.left lawful.relation lawful.right)))
+        (all rest (All-tail (IsSummand h) s rest a)))
+
+pub product-linear : (q : Gf) (t : ℕ) (u v : Path) → IsLinear q (λ x. product_between t u x v)
+product-linear q t u v = record { adds = λ x y. product-add q t u x y v; scales = λ c x. product-mul q t c u x v }
 
 pub IsInIdeal-between : (h : Header) (u v : Path) (x : Path → ℕ) → IsPath h.quiver u → IsPath h.quiver v → IsInIdeal h x → IsInIdeal h (product_between h.bound u x v)
-IsInIdeal-between h u v x hu hv m = IsInIdeal-same h _ _ (λ p. ap (λ y. product_between h.bound u y v p) (fun_ext m.value))
-    (summands_between h u v hu hv m.summands m.lawful)
+IsInIdeal-between h u v x hu hv m = IsInIdeal-linear h (λ y. product_between h.bound u y v) (product-linear h.field h.bound u v) products x m
+  where
+    products : (l r : Path) (relation : Relation) → IsPath h.quiver l → Contains h.relations relation → IsPath h.quiver r
+        → IsInIdeal h (product_between h.bound u (product_between h.bound l (relation_element h relation) r) v)
+    products l r relation hl c hr = elim (cases_eq u.end l.start) [
+      | inr d ↦ IsInIdeal-same h (λ _. 0) _ (product-product_apart h.bound u l (relation_element h relation) r v (inl d)) (IsInIdeal-zero h)
+      | inl a ↦ elim (cases_eq r.end v.start) [
+        | inr d ↦ IsInIdeal-same h (λ _. 0) _ (product-product_apart h.bound u l (relation_element h relation) r v (inr d)) (IsInIdeal-zero h)
+        | inl b ↦ IsInIdeal-same h _ _ (product-product h.bound u l (relation_element h relation) r v a b)
+            (IsInIdeal-product h (concat u l) (concat r v) relation (IsPath-concat h.quiver u l hu hl a) c (IsPath-concat h.quiver r v hr hv b))
+      ]
+    ]

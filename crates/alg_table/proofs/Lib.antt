@@ -20,3 +20,5 @@ pub mod Reducing
 pub mod Independent
 pub mod IdealActs
 pub mod IdealSteps
+pub mod Congruence
+pub mod ClausesSuffice
