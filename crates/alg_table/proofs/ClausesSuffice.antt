@@ -38,10 +38,12 @@ use Rattle.alg_table.proofs.SumsOver.{sum_over_below, sum_over-nil, sum_over-con
 use Rattle.alg_table.proofs.Acting.{sum_over-one}
 use Rattle.alg_table.proofs.Occurrences.{cases_occurrence}
 use Rattle.alg_table.proofs.Reducing.{AreRules, tail_term, becomes_below, becomes-outside, becomes-greater}
-use Rattle.alg_table.proofs.Independent.{cases_listed, AreActedOn, IsOfWords}
+use Rattle.alg_table.proofs.Independent.{cases_listed, AreActedOn}
 use Rattle.alg_table.proofs.IdealActs.{ActAsZero, IsInIdeal-long, independent}
+use Rattle.alg_table.proofs.NormalFactors.{whole_factor, tip_between}
+use Rattle.alg_table.proofs.Quotient.{sub-sub_sub}
 use Rattle.alg_table.proofs.IdealSteps.{steps_are_members}
-use Rattle.alg_table.proofs.Congruence.{product-between_terms, product-tip, product-sub, sub_swap, mul-sub, add-sub, congruent_to_reduction}
+use Rattle.alg_table.proofs.Congruence.{product-between_terms, product-tip, product-sub, mul-sub, add-sub, congruent_to_reduction}
 
 -- a sum of terms is zero at a path that none of them has
 pub sum_of_terms-outside : (q : Gf) (t : ℕ) (terms : List Term) (p : Path) → All (λ (a : Term). a.path ≡ p → ⊥) terms → sum_of_terms q t terms p ≡ 0
@@ -63,16 +65,24 @@ term_at q t (a ∷ terms) p n = elim (cases_eq (path_element t a.path p) 0) [
       (rest.0, Contains-behind a terms rest.0 rest.1, rest.2)
 ]
 
--- a factor of the whole length is the path
-whole_factor : (Q : Quiver) (f p : Path) (i : IsFactor Q f p) → path_length p ≤ path_length f → f ≡ p
-whole_factor Q f p i l =
-    let lengths = length-factor Q f p i in
-    let before : i.before ≡ trivial_path i.before.start = trivial_from_length Q i.before i.before_is (omega (arith, lengths, l)) in
-    let behind : i.behind ≡ trivial_path i.behind.start = trivial_from_length Q i.behind i.behind_is (omega (arith, lengths, l)) in
-    sym (i.whole ∙ ap₂ (λ u v. concat u (concat f v))
-    (before ∙ ap trivial_path (ap (λ (x : Path). x.end) (sym before) ∙ i.meets_before))
-    (behind ∙ ap trivial_path (sym i.meets_behind))
-    ∙ ap (concat (trivial_path f.start)) (concat-trivial_right f) ∙ concat-trivial_left f)
+-- the tip of a rule that is greater than its tail is the greatest path of what the rule says
+pub rule_at_tip : (h : Header) (rule : Rule) → path_length rule.tip < h.bound → All (λ (a : Term). IsSmaller a.path rule.tip) rule.tail.terms → rule_element h rule rule.tip ≡ 1
+rule_at_tip h rule short greater =
+    ap₂ (sub h.field) (path_element-self h.bound rule.tip short)
+      (sum_of_terms-outside h.field h.bound rule.tail.terms rule.tip (All-weaker (λ (a : Term). IsSmaller a.path rule.tip) (λ (a : Term). a.path ≡ rule.tip → ⊥)
+        (λ a s e. IsSmaller-irreflexive rule.tip (subst (λ x. IsSmaller x rule.tip) e s)) rule.tail.terms greater))
+    ∙ sub_zero h.field 1 (one-lt-order h.field)
+
+pub rule_greatest : (h : Header) (rule : Rule) → path_length rule.tip < h.bound → All (λ (a : Term). IsSmaller a.path rule.tip) rule.tail.terms → IsGreatestPath (rule_element h rule) rule.tip
+rule_greatest h rule short greater = record {
+  nonzero = λ e. absurd (omega (arith, sym (rule_at_tip h rule short greater) ∙ e));
+  greatest = λ r n. elim (cases_path rule.tip r) [
+    | inl e ↦ inl (sym e)
+    | inr d ↦
+        let a = term_at h.field h.bound rule.tail.terms r (λ z. n (ap₂ (sub h.field) (path_element-other h.bound rule.tip r d) z ∙ sub_zero h.field 0 (order-pos h.field))) in
+        inr (subst (λ x. IsSmaller x rule.tip) a.2 (All-contains (λ (x : Term). IsSmaller x.path rule.tip) rule.tail.terms a.0 greater a.1))
+  ];
+}
 
 module _ (h : Header) (words : List Path) (steps : List Step) (rules : List Rule) (ok : IsAllowed h) (claim : IsBasisClaim h words steps rules) (c : MeetsClauses h words steps rules) where
   pub rule_holds : (rule : Rule) → Contains rules rule → RuleHolds h steps rule
@@ -90,16 +100,8 @@ module _ (h : Header) (words : List Path) (steps : List Step) (rules : List Rule
   pub rule_member : (rule : Rule) → Contains rules rule → IsInIdeal h (rule_element h rule)
   rule_member rule m = IsInIdeal-same h (element_at (step_elements h steps) rule.step) (rule_element h rule) (rule_holds rule m).derived (steps_are_members h ok steps c.step.named rule.step)
 
-  rule_at_tip : (rule : Rule) → Contains rules rule → rule_element h rule rule.tip ≡ 1
-  rule_at_tip rule m =
-      let r = rule_holds rule m in
-      ap₂ (sub h.field) (path_element-self h.bound rule.tip r.short)
-      (sum_of_terms-outside h.field h.bound rule.tail.terms rule.tip (All-weaker (λ (a : Term). IsSmaller a.path rule.tip) (λ (a : Term). a.path ≡ rule.tip → ⊥)
-      (λ a s e. IsSmaller-irreflexive rule.tip (subst (λ x. IsSmaller x rule.tip) e s)) rule.tail.terms r.greater))
-      ∙ sub_zero h.field 1 (one-lt-order h.field)
-
   tip_long : (rule : Rule) → Contains rules rule → 2 ≤ path_length rule.tip
-  tip_long rule m = IsInIdeal-long h ok (rule_element h rule) (rule_member rule m) rule.tip (λ e. omega (arith, sym (rule_at_tip rule m) ∙ e))
+  tip_long rule m = IsInIdeal-long h ok (rule_element h rule) (rule_member rule m) rule.tip (λ e. omega (arith, sym (rule_at_tip h rule (rule_holds rule m).short (rule_holds rule m).greater) ∙ e))
 
   pub acted_on : AreActedOn h words rules c.action.becomes
   acted_on = record { are = are_rules; tips_long = tip_long; reduced = c.reduced; listed = c.word; reduction = c.action.reduction }
@@ -150,7 +152,7 @@ module _ (h : Header) (words : List Path) (steps : List Step) (rules : List Rule
       let q = h.field in
       let x : Path → ℕ = combination q h.bound c words in
       let y : Path → ℕ = combination q h.bound d words in
-      let differ : IsInIdeal h (λ r. sub q (y r) (x r)) = IsInIdeal-same h _ _ (λ r. sym (sub_swap q (path_element h.bound p r) (x r) (y r))) (IsInIdeal-sub h _ _ e.congruent f.congruent) in
+      let differ : IsInIdeal h (λ r. sub q (y r) (x r)) = IsInIdeal-same h _ _ (λ r. sym (sub-sub_sub q (path_element h.bound p r) (y r) (x r))) (IsInIdeal-sub h _ _ e.congruent f.congruent) in
       let same : (r : Path) → y r ≡ x r = λ r. sub_eq_zero q (y r) (x r) (combination-below q h.bound d words r) (combination-below q h.bound c words r)
       (zero_of_words (λ r. sub q (y r) (x r)) differ (λ r n. ap₂ (sub q) (combination-outside q h.bound d words r n) (combination-outside q h.bound c words r n) ∙ sub_zero q 0 (order-pos q)) r) in
       sym (coefficients_from_combination q h.bound words d distinct f.coefficients.count f.coefficients.small)
@@ -232,40 +234,11 @@ module _ (h : Header) (words : List Path) (steps : List Step) (rules : List Rule
       ]
 
   -- a short path in which a tip occurs is one
-  pub tip_from_occurrence : (p : Path) → IsShortPath h p → (rule : Rule) → Contains rules rule → IsFactor h.quiver rule.tip p → IsTip h p
-  tip_from_occurrence p s rule m f = record {
-    element = product_between h.bound f.before (rule_element h rule) f.behind;
-    in_ideal = IsInIdeal-between h f.before f.behind (rule_element h rule) f.before_is f.behind_is (rule_member rule m);
-    greatest = record {
-      nonzero = λ e. absurd (omega (
-        arith,
-        sym (product-composite h.bound f.before (rule_element h rule) f.behind rule.tip f.meets_before f.meets_behind (subst (λ x. path_length x < h.bound) f.whole s.short)
-            ∙ rule_at_tip rule m) ∙ ap (product_between h.bound f.before (rule_element h rule) f.behind) (sym f.whole) ∙ e,
-      ));
-      greatest = greater;
-    };
-  }
-    where
-      at_middle : (r : Path) → rule_element h rule r ≢ 0 → (r ≡ rule.tip) ⊎ IsSmaller r rule.tip
-      at_middle r n = elim (cases_path rule.tip r) [
-        | inl e ↦ inl (sym e)
-        | inr d ↦ inr (smaller_term r (λ z. n (ap₂ (sub h.field) (path_element-other h.bound rule.tip r d) z ∙ sub_zero h.field 0 (order-pos h.field))))
-      ]
-        where
-          smaller_term : (r : Path) → sum_of_terms h.field h.bound rule.tail.terms r ≢ 0 → IsSmaller r rule.tip
-          smaller_term r n =
-              let a = term_at h.field h.bound rule.tail.terms r n in
-              subst (λ x. IsSmaller x rule.tip) a.2 (All-contains (λ (x : Term). IsSmaller x.path rule.tip) rule.tail.terms a.0 (rule_holds rule m).greater a.1)
+  rule_tip : (rule : Rule) → Contains rules rule → IsTip h rule.tip
+  rule_tip rule m = record { element = rule_element h rule; in_ideal = rule_member rule m; greatest = rule_greatest h rule (rule_holds rule m).short (rule_holds rule m).greater }
 
-      greater : (r : Path) → product_between h.bound f.before (rule_element h rule) f.behind r ≢ 0 → (r ≡ p) ⊎ IsSmaller r p
-      greater r n =
-          let o = product_support h.bound f.before (rule_element h rule) f.behind r n in
-          let is : composite f.before (middle f.before f.behind r) f.behind ≡ r = composite-middle f.before f.behind r o.between in
-          elim (at_middle (middle f.before f.behind r) o.nonzero) [
-            | inl e ↦ inl (sym is ∙ ap (λ x. composite f.before x f.behind) e ∙ sym f.whole)
-            | inr less ↦ inr (subst (λ x. IsSmaller x p) is (subst (IsSmaller (composite f.before (middle f.before f.behind r) f.behind)) (sym f.whole)
-                (IsSmaller-concat f.before (middle f.before f.behind r) rule.tip f.behind (middle-start f.before f.behind r) f.meets_before less)))
-          ]
+  tip_from_occurrence : (p : Path) → IsShortPath h p → (rule : Rule) → Contains rules rule → IsFactor h.quiver rule.tip p → IsTip h p
+  tip_from_occurrence p s rule m f = tip_between h rule.tip p (rule_tip rule m) f s.short
 
   pub word_normal : (w : Path) → Contains words w → IsNormal h w
   word_normal w m = record { short = (c.word.only w m).0; no_tip = word_no_tip w m }
@@ -285,7 +258,7 @@ module _ (h : Header) (words : List Path) (steps : List Step) (rules : List Rule
   reduced_rule rule m = record {
     minimal = record {
       short = short;
-      tip = tip_from_occurrence rule.tip short rule m (IsFactor-itself h.quiver rule.tip ok.quiver.ends short.path);
+      tip = rule_tip rule m;
       factors = λ f i d. no_tip_normal f (record {
         path = IsPath-factor h.quiver f rule.tip ok.quiver.ends short.path i;
         short = omega (arith, short.short, length-factor h.quiver f rule.tip i);

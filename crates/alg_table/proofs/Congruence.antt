@@ -120,12 +120,3 @@ congruent_to_reduction h rules k becomes red m = by_reduction h rules k (λ p. I
     (IsInIdeal-same h _ _ (λ r. ap (sub h.field (sum_between h (path_element h.bound) o.before o.rule.tail.terms o.behind r)) (red.rewritten p s o r))
     (congruent_between h (path_element h.bound) becomes o.before o.rule.tail.terms o.behind
     (λ a n mu mv. before a n mu mv (rewritten_smaller h rules k p o a n mu mv))))))
-
--- the difference of two differences from one element
-pub sub_swap : (q : Gf) (a b c : ℕ) → sub q (sub q a b) (sub q a c) ≡ sub q c b
-sub_swap q a b c =
-    sub_def q (sub q a b) (sub q a c)
-    ∙ ap₂ (add q) (sub_def q a b ∙ add_comm q a (neg q b)) (ap (neg q) (sub_def q a c) ∙ neg-add q a (neg q c) ∙ ap (add q (neg q a)) (neg_neg q c) ∙ add-mod_right q (neg q a) c)
-    ∙ add_assoc q (neg q b) a (add q (neg q a) c)
-    ∙ ap (add q (neg q b)) (sym (add_assoc q a (neg q a) c) ∙ ap (λ z. add q z c) (add_neg q a) ∙ zero_add-mod q c) ∙ add-mod_right q (neg q b) c
-    ∙ add_comm q (neg q b) c ∙ sym (sub_def q c b)

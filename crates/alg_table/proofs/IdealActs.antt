@@ -25,9 +25,10 @@ use Rattle.alg_table.proofs.Between.{composite, composite-middle, middle-start, 
 use Rattle.alg_table.proofs.ElementLemmas.{path_element-self, path_element-other, path_element-long, product-path, product-add, product_support}
 use Rattle.alg_table.proofs.IdealLemmas.{terms_support, relation_support}
 use Rattle.alg_table.proofs.IdealProducts.{product-nothing, length-composite}
+use Rattle.alg_table.proofs.Combinations.{IsCombination}
 use Rattle.alg_table.proofs.SumsOver.{sum_over-nil, sum_over-cons, sum_over-same, sum_over-zeros, sum_over-add, mul-sum_over, IsLinear, linear-same, linear-zero, linear-sum}
 use Rattle.alg_table.proofs.Acting.{sum_over-one, act_arrows-linear, act_terms-linear, act_arrows-append}
-use Rattle.alg_table.proofs.Independent.{AreActedOn, IsOfWords, cases_listed, leads_arrows, word_short, trivial_word, word_is_of_words, along_word, vanishes, arrows_of_words, nothing_acts, starts_apart}
+use Rattle.alg_table.proofs.Independent.{AreActedOn, cases_listed, leads_arrows, word_short, trivial_word, word_is_of_words, along_word, vanishes, arrows_of_words, nothing_acts, starts_apart}
 
 -- the product with a sum of terms that meet the paths on both sides
 pub product-terms : (h : Header) (u v : Path) (terms : List Term) → ((a : Term) → Contains terms a → (u.end ≡ a.path.start) × (a.path.end ≡ v.start)) → (p : Path)
@@ -114,7 +115,7 @@ pub record ActAsZero (h : Header) (words : List Path) (becomes : Path → Path �
 
 module _ (h : Header) (words : List Path) (rules : List Rule) (becomes : Path → Path → ℕ) (k : AreActedOn h words rules becomes) (z : ActAsZero h words becomes) where
   -- a path of the bound's length or more acts as zero
-  long_acts : (p : Path) → IsPath h.quiver p → h.bound ≤ path_length p → (x : Path → ℕ) → IsOfWords h words rules becomes k x → (r : Path)
+  long_acts : (p : Path) → IsPath h.quiver p → h.bound ≤ path_length p → (x : Path → ℕ) → IsCombination h words x → (r : Path)
       → act_arrows h becomes words p.arrows x r ≡ 0
   long_acts p hp l x s r =
       let c = cut h.quiver p h.bound k.are.allowed.quiver.ends hp l in
@@ -126,7 +127,7 @@ module _ (h : Header) (words : List Path) (rules : List Rule) (becomes : Path �
       ∙ nothing_acts h words rules becomes k c.1.arrows r
 
   -- all terms of a relation act, also those of the bound's length or more
-  terms_act : (terms : List Term) → All (IsTerm h) terms → (x : Path → ℕ) → IsOfWords h words rules becomes k x → (r : Path)
+  terms_act : (terms : List Term) → All (IsTerm h) terms → (x : Path → ℕ) → IsCombination h words x → (r : Path)
       → act_terms h becomes words terms x r ≡ sum_over h.field terms (λ a. mul h.field a.coef (act_arrows h becomes words a.path.arrows x r))
   unfolding act_terms
   terms_act terms lawful x s r = sum_over-same h.field terms _ _ (λ a m. elim (cases_lt (path_length a.path) h.bound) [
@@ -146,7 +147,7 @@ module _ (h : Header) (words : List Path) (rules : List Rule) (becomes : Path �
     scales = λ c x r. sum_over-same h.field (paths_below h.quiver h.bound) _ _ (λ p m. mul_assoc h.field c (x p) _) ∙ sym (mul-sum_over h.field c (paths_below h.quiver h.bound) _);
   }
 
-  act_element-path : (m : Path) → IsPath h.quiver m → (y : Path → ℕ) → IsOfWords h words rules becomes k y → (r : Path)
+  act_element-path : (m : Path) → IsPath h.quiver m → (y : Path → ℕ) → IsCombination h words y → (r : Path)
       → act_element (path_element h.bound m) y r ≡ act_arrows h becomes words m.arrows y r
   unfolding act_element
   act_element-path m hm y s r = elim (cases_lt (path_length m) h.bound) [
@@ -168,7 +169,7 @@ module _ (h : Header) (words : List Path) (rules : List Rule) (becomes : Path �
   composite_acts u m v y = act_arrows-append h becomes words u.arrows (m.arrows ++ v.arrows) y ∙ act_arrows-append h becomes words m.arrows v.arrows (act_arrows h becomes words u.arrows y)
 
   -- a product u·r·v acts as zero
-  product_acts : (u v : Path) (r : Relation) → IsPath h.quiver u → IsPath h.quiver v → Contains h.relations r → (y : Path → ℕ) → IsOfWords h words rules becomes k y → (p : Path)
+  product_acts : (u v : Path) (r : Relation) → IsPath h.quiver u → IsPath h.quiver v → Contains h.relations r → (y : Path → ℕ) → IsCombination h words y → (p : Path)
       → act_element (product_between h.bound u (relation_element h r) v) y p ≡ 0
   product_acts u v r hu hv c y s p = elim (cases_meet h u v r is) [
     | inr zero_product ↦ linear-same (λ x. act_element x y) _ (λ q. 0) zero_product p ∙ linear-zero h.field (λ x. act_element x y) (act_element-linear y) p
@@ -192,13 +193,13 @@ module _ (h : Header) (words : List Path) (rules : List Rule) (becomes : Path �
       y' : Path → ℕ
       y' = act_arrows h becomes words u.arrows y
 
-      s' : IsOfWords h words rules becomes k y'
+      s' : IsCombination h words y'
       s' = arrows_of_words h words rules becomes k u.arrows (leads_arrows h.quiver u.start u.arrows u.end hu.leads) y s
 
       acts_as_zero : (q : Path) → act_terms h becomes words r.terms y' q ≡ 0
       acts_as_zero = vanishes h words rules becomes k (act_terms h becomes words r.terms) (act_terms-linear h becomes words r.terms) (λ w n q. z.relations r c w n q) y' s'
 
-  summands_act : (summands : List Summand) → All (IsSummand h) summands → (y : Path → ℕ) → IsOfWords h words rules becomes k y → (p : Path)
+  summands_act : (summands : List Summand) → All (IsSummand h) summands → (y : Path → ℕ) → IsCombination h words y → (p : Path)
       → act_element (sum_of_summands h summands) y p ≡ 0
   unfolding sum_of_summands summand_element
   summands_act [] l y s p = linear-zero h.field (λ x. act_element x y) (act_element-linear y) p
@@ -211,11 +212,11 @@ module _ (h : Header) (words : List Path) (rules : List Rule) (becomes : Path �
       ∙ add_zero_zero h.field
 
   -- each member of the ideal acts as zero
-  pub ideal_acts : (x : Path → ℕ) → IsInIdeal h x → (y : Path → ℕ) → IsOfWords h words rules becomes k y → (p : Path) → act_element x y p ≡ 0
+  pub ideal_acts : (x : Path → ℕ) → IsInIdeal h x → (y : Path → ℕ) → IsCombination h words y → (p : Path) → act_element x y p ≡ 0
   ideal_acts x m y s p = linear-same (λ w. act_element w y) x (sum_of_summands h m.summands) m.value p ∙ summands_act m.summands m.lawful y s p
 
   -- so a member that is a combination of words is zero
-  pub independent : (x : Path → ℕ) → IsInIdeal h x → IsOfWords h words rules becomes k x → (p : Path) → x p ≡ 0
+  pub independent : (x : Path → ℕ) → IsInIdeal h x → IsCombination h words x → (p : Path) → x p ≡ 0
   unfolding act_element
   independent x m s p = elim (cases_listed words p) [
     | inr n ↦ s.outside p n

@@ -29,6 +29,7 @@ use Rattle.alg_table.specs.Reduction.{HasNoTip, IsReduction, act_arrow, act_arro
 use Rattle.alg_table.specs.BasisClauses.{ReducedHolds, WordsHold}
 use Rattle.alg_table.proofs.Between.{cases_path}
 use Rattle.alg_table.proofs.ElementLemmas.{path_element-self, path_element-other, path_element-long, path_element-below, path_element_support}
+use Rattle.alg_table.proofs.Combinations.{IsCombination}
 use Rattle.alg_table.proofs.SumsOver.{sum_over_below, sum_over-same, sum_over-zeros, sum_over-add, mul-sum_over, IsLinear, linear-same, linear-zero, linear-sum}
 use Rattle.alg_table.proofs.Acting.{sum_over-one, act_arrow-linear, act_arrows-linear, act_terms-linear, act_arrows-append, act_arrow-word}
 use Rattle.alg_table.proofs.Reducing.{AreRules, becomes_below, becomes-outside}
@@ -80,12 +81,7 @@ module _ (h : Header) (words : List Path) (rules : List Rule) (becomes : Path �
   trivial_word v hv = k.listed.all (trivial_path v) (record { path = hv; short = omega (arith, k.are.allowed.bound_from) })
       (λ rule c f. omega (arith, k.tips_long rule c, length-factor h.quiver rule.tip (trivial_path v) f))
 
-  -- an element that is a combination of words
-  pub record IsOfWords (x : Path → ℕ) : Type 0 where
-    pub small : (r : Path) → x r < order h.field
-    pub outside : (r : Path) → (Contains words r → ⊥) → x r ≡ 0
-
-  pub word_is_of_words : (w : Path) → Contains words w → IsOfWords (path_element h.bound w)
+  pub word_is_of_words : (w : Path) → Contains words w → IsCombination h words (path_element h.bound w)
   word_is_of_words w m = record {
     small = path_element-below h.field h.bound w;
     outside = λ r n. path_element-other h.bound w r (λ e. n (subst (Contains words) e m));
@@ -135,7 +131,7 @@ module _ (h : Header) (words : List Path) (rules : List Rule) (becomes : Path �
       ap (act_arrows h becomes words xs) step ∙ along_word xs next w next_is m s arrows
 
   -- a combination of words is the sum of its words
-  sum_of_words : (x : Path → ℕ) → IsOfWords x → (r : Path) → x r ≡ sum_over h.field words (λ w. mul h.field (x w) (path_element h.bound w r))
+  sum_of_words : (x : Path → ℕ) → IsCombination h words x → (r : Path) → x r ≡ sum_over h.field words (λ w. mul h.field (x w) (path_element h.bound w r))
   sum_of_words x s r = elim (cases_listed words r) [
     | inl m ↦
         let at : mul h.field (x r) (path_element h.bound r r) ≡ x r = ap (mul h.field (x r)) (path_element-self h.bound r (word_short r m).short) ∙ mul_one h.field (x r) (s.small r) in
@@ -147,14 +143,14 @@ module _ (h : Header) (words : List Path) (rules : List Rule) (becomes : Path �
 
   -- what is linear and takes the words to zero takes their combinations to zero
   pub vanishes : (L : (Path → ℕ) → Path → ℕ) → IsLinear h.field L → ((w : Path) → Contains words w → (r : Path) → L (path_element h.bound w) r ≡ 0)
-      → (x : Path → ℕ) → IsOfWords x → (r : Path) → L x r ≡ 0
+      → (x : Path → ℕ) → IsCombination h words x → (r : Path) → L x r ≡ 0
   vanishes L l z x s r =
       linear-same L x (λ p. sum_over h.field words (λ w. mul h.field (x w) (path_element h.bound w p))) (sum_of_words x s) r
       ∙ linear-sum h.field L l words x (path_element h.bound) r
       ∙ sum_over-zeros h.field words _ (λ w m. ap (mul h.field (x w)) (z w m r) ∙ mul_zero h.field (x w))
 
   -- arrows take combinations of words to combinations of words
-  arrow_of_words : (a : ℕ) → a < arrow_count h.quiver → (x : Path → ℕ) → IsOfWords (act_arrow h becomes words a x)
+  arrow_of_words : (a : ℕ) → a < arrow_count h.quiver → (x : Path → ℕ) → IsCombination h words (act_arrow h becomes words a x)
   unfolding act_arrow
   arrow_of_words a l x = record {
     small = λ r. sum_over_below h.field words _;
@@ -166,7 +162,7 @@ module _ (h : Header) (words : List Path) (rules : List Rule) (becomes : Path �
     ]);
   }
 
-  pub arrows_of_words : (xs : List ℕ) → All (λ a. a < arrow_count h.quiver) xs → (x : Path → ℕ) → IsOfWords x → IsOfWords (act_arrows h becomes words xs x)
+  pub arrows_of_words : (xs : List ℕ) → All (λ a. a < arrow_count h.quiver) xs → (x : Path → ℕ) → IsCombination h words x → IsCombination h words (act_arrows h becomes words xs x)
   unfolding act_arrows
   arrows_of_words [] l x s = s
   arrows_of_words (a ∷ xs) l x s = arrows_of_words xs (All-tail (λ b. b < arrow_count h.quiver) a xs l) (act_arrow h becomes words a x)

@@ -21,4 +21,6 @@ pub mod Independent
 pub mod IdealActs
 pub mod IdealSteps
 pub mod Congruence
+pub mod NormalFactors
+pub mod NormalForms
 pub mod ClausesSuffice
