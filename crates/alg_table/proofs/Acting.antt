@@ -1,11 +1,12 @@
 -- The action of arrows by reduction is linear; how it acts on words.
-use Rattle.std.proofs.Common.{ℕ, ◌≡◌, ◌≢◌, ◌<◌, ◌⊎◌, inl, inr, List, [], ◌∷◌, ◌++◌, Bool, true, false, if◌then◌else◌, eqb, ltb, refl, sym, ap, ap₂, ◌∙◌, subst}
+use Rattle.std.proofs.Common.{ℕ, ◌≡◌, ◌≢◌, ◌<◌, ◌⊎◌, inl, inr, List, [], ◌∷◌, ◌++◌, length, arith, Bool, true, false, if◌then◌else◌, eqb, ltb, refl, sym, ap, ap₂, ◌∙◌, subst}
 use Rattle.std.specs.Prelude.{Contains}
-use Rattle.std.proofs.lemmas.Bool.{cond-true, cond-false, eq-eqb}
+use Rattle.std.proofs.lemmas.Bool.{cases_eq, cond-true, cond-false, eq-eqb, ne_eqb}
 use Rattle.linear_algebra.specs.Field.{Gf, order, add, mul}
-use Rattle.linear_algebra.specs.FieldLaws.{add_zero, zero_add, add_zero_zero, add_mul, mul_add, mul_zero, zero_mul, mul_assoc, mul_left_comm, one_mul, mul_below, order-pos}
+use Rattle.linear_algebra.specs.FieldLaws.{add_zero, zero_add, add_zero_zero, add_mul, mul_add, mul_zero, mul_one, zero_mul, mul_assoc, mul_left_comm, one_mul, mul_below, order-pos}
 use Rattle.quiver_paths.specs.declared.Path.{Path}
-use Rattle.quiver_paths.specs.Path.{path_length, concat, arrow_path}
+use mathlib.Core.Path.{fun_ext}
+use Rattle.quiver_paths.specs.Path.{Leads, path_length, concat, arrow_path}
 use Rattle.quiver_paths.specs.PathOrder.{IsSmaller, IsAscending}
 use Rattle.quiver_paths.specs.Quiver.{source}
 use Rattle.quiver_paths.proofs.ListLemmas.{Contains-head, Contains-behind, Contains-cons_cases, Contains-nil, AllPairs-head, AllPairs-tail}
@@ -16,7 +17,8 @@ use Rattle.alg_table.specs.Elements.{sum_over, path_element}
 use Rattle.alg_table.specs.Reduction.{act_arrow, act_arrows, act_terms}
 use Rattle.alg_table.proofs.Between.{cases_path}
 use Rattle.alg_table.proofs.ElementLemmas.{path_element-self, path_element-other}
-use Rattle.alg_table.proofs.SumsOver.{sum_over-same, sum_over-zeros, sum_over-add, mul-sum_over, sum_over-cons, IsLinear, linear-compose}
+use Rattle.alg_table.proofs.Combinations.{IsCombination, AreDistinct}
+use Rattle.alg_table.proofs.SumsOver.{sum_over-same, sum_over-zeros, sum_over-add, mul-sum_over, sum_over-cons, IsLinear, linear-zero, linear-compose}
 
 -- a sum of which one member of an ascending list has all
 pub sum_over-one : (q : Gf) (xs : List Path) (f : Path → ℕ) (w : Path) → IsAscending xs → Contains xs w → f w < order q
@@ -33,6 +35,17 @@ sum_over-one q (x ∷ xs) f w a m b z = elim (cases_path x w) [
       sum_over-cons q x xs f ∙ ap₂ (add q) (z x (Contains-head x xs) d) rest ∙ zero_add q (f w) b
 ]
 
+-- a path is in a list or not
+pub cases_listed : (ps : List Path) (p : Path) → Contains ps p ⊎ (Contains ps p → ⊥)
+cases_listed [] p = inr (Contains-nil p)
+cases_listed (x ∷ ps) p = elim (cases_path x p) [
+  | inl e ↦ inl (subst (Contains (x ∷ ps)) e (Contains-head x ps))
+  | inr n ↦ elim (cases_listed ps p) [
+    | inl m ↦ inl (Contains-behind x ps p m)
+    | inr d ↦ inr (λ m. elim (Contains-cons_cases x ps p m) [ inl e ↦ n e | inr c ↦ d c ])
+  ]
+]
+
 chosen-add : (q : Gf) (b : Bool) (u v : ℕ) → (if b then add q u v else 0) ≡ add q (if b then u else 0) (if b then v else 0)
 chosen-add q true u v = refl
 chosen-add q false u v = sym (add_zero_zero q)
@@ -40,6 +53,18 @@ chosen-add q false u v = sym (add_zero_zero q)
 chosen-mul : (q : Gf) (b : Bool) (c u : ℕ) → (if b then mul q c u else 0) ≡ mul q c (if b then u else 0)
 chosen-mul q true c u = refl
 chosen-mul q false c u = sym (mul_zero q c)
+
+-- a combination of words is the sum of its words
+pub combination_sum : (h : Header) (words : List Path) → AreDistinct h.bound words → (x : Path → ℕ) → IsCombination h words x → (r : Path)
+    → x r ≡ sum_over h.field words (λ w. mul h.field (x w) (path_element h.bound w r))
+combination_sum h words d x s r = elim (cases_listed words r) [
+  | inl m ↦
+      let at : mul h.field (x r) (path_element h.bound r r) ≡ x r = ap (mul h.field (x r)) (path_element-self h.bound r (d.short r m)) ∙ mul_one h.field (x r) (s.small r) in
+      sym (sum_over-one h.field words (λ w. mul h.field (x w) (path_element h.bound w r)) r d.ascending m (subst (λ n. n < order h.field) (sym at) (s.small r))
+      (λ v n e. ap (mul h.field (x v)) (path_element-other h.bound v r e) ∙ mul_zero h.field (x v)) ∙ at)
+  | inr n ↦ s.outside r n ∙ sym (sum_over-zeros h.field words _ (λ w m.
+      ap (mul h.field (x w)) (path_element-other h.bound w r (λ e. n (subst (Contains words) e m))) ∙ mul_zero h.field (x w)))
+]
 
 module _ (h : Header) (becomes : Path → Path → ℕ) (words : List Path) where
   pub act_arrow-linear : (a : ℕ) → IsLinear h.field (act_arrow h becomes words a)
@@ -96,3 +121,24 @@ module _ (h : Header) (becomes : Path → Path → ℕ) (words : List Path) wher
       chosen-zero : (b : Bool) → ◌≡◌ {A = ℕ} (if b then 0 else 0) 0
       chosen-zero true = refl
       chosen-zero false = refl
+
+  -- an arrow on a path that it does not meet
+  acts_apart : (a : ℕ) (w : Path) → (w.end ≡ source h.quiver a → ⊥) → act_arrow h becomes words a (path_element h.bound w) ≡ (λ r. 0)
+  unfolding act_arrow
+  acts_apart a w d = fun_ext (λ r. sum_over-zeros h.field words _ (λ v m. elim (cases_eq v.end (source h.quiver a)) [
+    | inl e ↦ cond-true _ _ 0 (eq-eqb _ _ e)
+        ∙ ap (λ c. mul h.field c (becomes (concat v (arrow_path h.quiver a)) r)) (path_element-other h.bound w v (λ i. d (ap (λ (x : Path). x.end) i ∙ e)))
+        ∙ zero_mul h.field _
+    | inr n ↦ cond-false _ _ 0 (ne_eqb _ _ n)
+  ]))
+
+  pub nothing_acts : (xs : List ℕ) (r : Path) → act_arrows h becomes words xs (λ p. 0) r ≡ 0
+  nothing_acts xs r = linear-zero h.field (act_arrows h becomes words xs) (act_arrows-linear xs) r
+
+  -- arrows that do not start where a path ends
+  pub starts_apart : (xs : List ℕ) (w : Path) (s e : ℕ) → 0 < length xs → Leads h.quiver s xs e → (s ≡ w.end → ⊥) → (r : Path)
+      → act_arrows h becomes words xs (path_element h.bound w) r ≡ 0
+  unfolding act_arrows
+  starts_apart [] w s e n l d r = absurd (omega (arith, n))
+  starts_apart (a ∷ xs) w s e n l d r =
+      ap (λ x. act_arrows h becomes words xs x r) (acts_apart a w (λ i. d (sym l.1 ∙ sym i))) ∙ nothing_acts xs r

@@ -35,15 +35,15 @@ use Rattle.alg_table.proofs.Combinations.{AreDistinct, combination-outside, comb
 use Rattle.alg_table.proofs.IdealLemmas.{IsInIdeal-below, IsInIdeal-same, IsInIdeal-zero, IsInIdeal-add, IsInIdeal-mul, IsInIdeal-sub, IsInIdeal_support}
 use Rattle.alg_table.proofs.IdealProducts.{IsInIdeal-between}
 use Rattle.alg_table.proofs.SumsOver.{sum_over_below, sum_over-nil, sum_over-cons, sum_over-zeros}
-use Rattle.alg_table.proofs.Acting.{sum_over-one}
+use Rattle.alg_table.proofs.Acting.{sum_over-one, cases_listed}
 use Rattle.alg_table.proofs.Occurrences.{cases_occurrence}
 use Rattle.alg_table.proofs.Reducing.{AreRules, tail_term, becomes_below, becomes-outside, becomes-greater}
-use Rattle.alg_table.proofs.Independent.{cases_listed, AreActedOn}
+use Rattle.alg_table.proofs.Independent.{AreActedOn}
 use Rattle.alg_table.proofs.IdealActs.{ActAsZero, IsInIdeal-long, independent}
 use Rattle.alg_table.proofs.NormalFactors.{whole_factor, tip_between}
 use Rattle.alg_table.proofs.Quotient.{sub-sub_sub}
 use Rattle.alg_table.proofs.IdealSteps.{steps_are_members}
-use Rattle.alg_table.proofs.Congruence.{product-between_terms, product-tip, product-sub, mul-sub, add-sub, congruent_to_reduction}
+use Rattle.alg_table.proofs.Congruence.{sums_congruent, congruent_to_reduction}
 
 -- a sum of terms is zero at a path that none of them has
 pub sum_of_terms-outside : (q : Gf) (t : ℕ) (terms : List Term) (p : Path) → All (λ (a : Term). a.path ≡ p → ⊥) terms → sum_of_terms q t terms p ≡ 0
@@ -69,8 +69,8 @@ term_at q t (a ∷ terms) p n = elim (cases_eq (path_element t a.path p) 0) [
 pub rule_at_tip : (h : Header) (rule : Rule) → path_length rule.tip < h.bound → All (λ (a : Term). IsSmaller a.path rule.tip) rule.tail.terms → rule_element h rule rule.tip ≡ 1
 rule_at_tip h rule short greater =
     ap₂ (sub h.field) (path_element-self h.bound rule.tip short)
-      (sum_of_terms-outside h.field h.bound rule.tail.terms rule.tip (All-weaker (λ (a : Term). IsSmaller a.path rule.tip) (λ (a : Term). a.path ≡ rule.tip → ⊥)
-        (λ a s e. IsSmaller-irreflexive rule.tip (subst (λ x. IsSmaller x rule.tip) e s)) rule.tail.terms greater))
+    (sum_of_terms-outside h.field h.bound rule.tail.terms rule.tip (All-weaker (λ (a : Term). IsSmaller a.path rule.tip) (λ (a : Term). a.path ≡ rule.tip → ⊥)
+    (λ a s e. IsSmaller-irreflexive rule.tip (subst (λ x. IsSmaller x rule.tip) e s)) rule.tail.terms greater))
     ∙ sub_zero h.field 1 (one-lt-order h.field)
 
 pub rule_greatest : (h : Header) (rule : Rule) → path_length rule.tip < h.bound → All (λ (a : Term). IsSmaller a.path rule.tip) rule.tail.terms → IsGreatestPath (rule_element h rule) rule.tip
@@ -193,16 +193,7 @@ module _ (h : Header) (words : List Path) (steps : List Step) (rules : List Rule
   unfolding replaced
   replaced_differs x m = IsInIdeal-same h _ _
       (λ r. ap (λ z. sub h.field z (replaced x r)) (sum_of_paths x (IsInIdeal-below h x m) (IsInIdeal_support h ok x m) r))
-      (sums (paths_below h.quiver h.bound) (λ p c. (lists.only p c).0))
-    where
-      sums : (ps : List Path) → ((p : Path) → Contains ps p → IsPath h.quiver p)
-          → IsInIdeal h (λ r. sub h.field (sum_over h.field ps (λ p. mul h.field (x p) (path_element h.bound p r))) (sum_over h.field ps (λ p. mul h.field (x p) (becomes p r))))
-      sums [] are = IsInIdeal-same h (λ _. 0) _ (λ r. ap₂ (sub h.field) (sum_over-nil {X = Path} h.field _) (sum_over-nil {X = Path} h.field _) ∙ sub_self h.field 0) (IsInIdeal-zero h)
-      sums (p ∷ ps) are = IsInIdeal-same h _ _
-          (λ r. ap₂ (sub h.field) (sum_over-cons h.field p ps _) (sum_over-cons h.field p ps _) ∙ add-sub h.field _ _ _ _
-          ∙ ap (λ z. add h.field z (sub h.field (sum_over h.field ps (λ v. mul h.field (x v) (path_element h.bound v r))) (sum_over h.field ps (λ v. mul h.field (x v) (becomes v r)))))
-          (sym (mul-sub h.field (x p) (path_element h.bound p r) (becomes p r))))
-          (IsInIdeal-add h _ _ (IsInIdeal-mul h (x p) _ (congruent p (are p (Contains-head p ps)))) (sums ps (λ v c. are v (Contains-behind p ps v c))))
+      (sums_congruent h (paths_below h.quiver h.bound) x (path_element h.bound) becomes (λ p c. congruent p (lists.only p c).0))
 
   replaced_zero : (x : Path → ℕ) → IsInIdeal h x → (r : Path) → replaced x r ≡ 0
   unfolding replaced

@@ -104,19 +104,36 @@ product-tip h u m v p a b e r =
     ∙ one_mul h.field _ (path_element-below h.field h.bound (composite u m v) r)
     ∙ ap (λ x. path_element h.bound x r) (sym e)
 
+-- sums of congruent elements with the same coefficients
+pub sums_congruent : {X : Type 0} (h : Header) (xs : List X) (c : X → ℕ) (f g : X → Path → ℕ) → ((x : X) → Contains xs x → IsInIdeal h (λ r. sub h.field (f x r) (g x r)))
+    → IsInIdeal h (λ r. sub h.field (sum_over h.field xs (λ x. mul h.field (c x) (f x r))) (sum_over h.field xs (λ x. mul h.field (c x) (g x r))))
+unfolding sum_over
+sums_congruent h [] c f g m = IsInIdeal-same h (λ _. 0) _ (λ r. sub_self h.field 0) (IsInIdeal-zero h)
+sums_congruent h (x ∷ xs) c f g m = IsInIdeal-same h _ _ (λ r. add-sub h.field _ _ _ _)
+    (IsInIdeal-add h _ _
+    (IsInIdeal-same h (λ r. mul h.field (c x) (sub h.field (f x r) (g x r))) _ (λ r. sym (mul-sub h.field (c x) (f x r) (g x r))) (IsInIdeal-mul h (c x) _ (m x (Contains-head x xs))))
+    (sums_congruent h xs c f g (λ y n. m y (Contains-behind x xs y n))))
+
+-- u·tip·v is congruent to what u·tail·v becomes
+pub rewritten_congruent : (h : Header) (becomes : Path → Path → ℕ) (rule : Rule) → IsInIdeal h (rule_element h rule) → (u v p : Path) → IsPath h.quiver u → IsPath h.quiver v
+    → Meets u rule.tip → Meets rule.tip v → p ≡ composite u rule.tip v
+    → ((a : Term) → Contains rule.tail.terms a → Meets u a.path → Meets a.path v → IsInIdeal h (λ r. sub h.field (path_element h.bound (composite u a.path v) r) (becomes (composite u a.path v) r)))
+    → IsInIdeal h (λ r. sub h.field (path_element h.bound p r) (sum_between h becomes u rule.tail.terms v r))
+rewritten_congruent h becomes rule m u v p hu hv a b e before = IsInIdeal-same h _ _
+    (λ r. sym (sub_telescope h.field (path_element h.bound p r) (sum_between h (path_element h.bound) u rule.tail.terms v r) (sum_between h becomes u rule.tail.terms v r)))
+    (IsInIdeal-add h _ _
+    (IsInIdeal-same h (product_between h.bound u (rule_element h rule) v) _
+    (λ r. sym (product-sub h.field h.bound u (path_element h.bound rule.tip) (sum_of_terms h.field h.bound rule.tail.terms) v r
+    ∙ ap₂ (sub h.field) (product-tip h u rule.tip v p a b e r) (product-between_terms h u rule.tail.terms v r)))
+    (IsInIdeal-between h u v (rule_element h rule) hu hv m))
+    (congruent_between h (path_element h.bound) becomes u rule.tail.terms v before))
+
 pub congruent_to_reduction : (h : Header) (rules : List Rule) → AreRules h rules → (becomes : Path → Path → ℕ) → IsReduction h rules becomes
     → ((rule : Rule) → Contains rules rule → IsInIdeal h (rule_element h rule)) → (p : Path) → IsPath h.quiver p
     → IsInIdeal h (λ r. sub h.field (path_element h.bound p r) (becomes p r))
 congruent_to_reduction h rules k becomes red m = by_reduction h rules k (λ p. IsInIdeal h (λ r. sub h.field (path_element h.bound p r) (becomes p r)))
     (λ p hp l. IsInIdeal-same h (λ _. 0) _ (λ r. ap₂ (sub h.field) (path_element-long h.bound p r l) (red.long p hp l r) ∙ sub_self h.field 0) (IsInIdeal-zero h))
     (λ p s n. IsInIdeal-same h (λ _. 0) _ (λ r. ap (sub h.field (path_element h.bound p r)) (red.stays p s n r) ∙ sub_self h.field (path_element h.bound p r)) (IsInIdeal-zero h))
-    (λ p s o before. IsInIdeal-same h _ _
-    (λ r. sym (sub_telescope h.field (path_element h.bound p r) (sum_between h (path_element h.bound) o.before o.rule.tail.terms o.behind r) (becomes p r)))
-    (IsInIdeal-add h _ _
-    (IsInIdeal-same h (product_between h.bound o.before (rule_element h o.rule) o.behind) _
-    (λ r. sym (product-sub h.field h.bound o.before (path_element h.bound o.rule.tip) (sum_of_terms h.field h.bound o.rule.tail.terms) o.behind r
-    ∙ ap₂ (sub h.field) (product-tip h o.before o.rule.tip o.behind p o.meets_before o.meets_behind o.whole r) (product-between_terms h o.before o.rule.tail.terms o.behind r)))
-    (IsInIdeal-between h o.before o.behind (rule_element h o.rule) o.before_is o.behind_is (m o.rule o.listed)))
-    (IsInIdeal-same h _ _ (λ r. ap (sub h.field (sum_between h (path_element h.bound) o.before o.rule.tail.terms o.behind r)) (red.rewritten p s o r))
-    (congruent_between h (path_element h.bound) becomes o.before o.rule.tail.terms o.behind
-    (λ a n mu mv. before a n mu mv (rewritten_smaller h rules k p o a n mu mv))))))
+    (λ p s o before. IsInIdeal-same h _ _ (λ r. ap (sub h.field (path_element h.bound p r)) (red.rewritten p s o r))
+    (rewritten_congruent h becomes o.rule (m o.rule o.listed) o.before o.behind p o.before_is o.behind_is o.meets_before o.meets_behind o.whole
+    (λ a n mu mv. before a n mu mv (rewritten_smaller h rules k p o a n mu mv))))

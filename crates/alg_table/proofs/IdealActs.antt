@@ -27,8 +27,8 @@ use Rattle.alg_table.proofs.IdealLemmas.{terms_support, relation_support}
 use Rattle.alg_table.proofs.IdealProducts.{product-nothing, length-composite}
 use Rattle.alg_table.proofs.Combinations.{IsCombination}
 use Rattle.alg_table.proofs.SumsOver.{sum_over-nil, sum_over-cons, sum_over-same, sum_over-zeros, sum_over-add, mul-sum_over, IsLinear, linear-same, linear-zero, linear-sum}
-use Rattle.alg_table.proofs.Acting.{sum_over-one, act_arrows-linear, act_terms-linear, act_arrows-append}
-use Rattle.alg_table.proofs.Independent.{AreActedOn, cases_listed, leads_arrows, word_short, trivial_word, word_is_of_words, along_word, vanishes, arrows_of_words, nothing_acts, starts_apart}
+use Rattle.alg_table.proofs.Acting.{sum_over-one, cases_listed, act_arrows-linear, act_terms-linear, act_arrows-append, nothing_acts, starts_apart}
+use Rattle.alg_table.proofs.Independent.{AreActedOn, leads_arrows, word_short, trivial_word, word_is_of_words, along_word, vanishes, arrows_of_words}
 
 -- the product with a sum of terms that meet the paths on both sides
 pub product-terms : (h : Header) (u v : Path) (terms : List Term) → ((a : Term) → Contains terms a → (u.end ≡ a.path.start) × (a.path.end ≡ v.start)) → (p : Path)
@@ -124,7 +124,7 @@ module _ (h : Header) (words : List Path) (rules : List Rule) (becomes : Path �
       ap (λ xs. act_arrows h becomes words xs x r) (sym (ap (λ (q : Path). q.arrows) c.2.whole))
       ∙ ap (λ y. y r) (act_arrows-append h becomes words c.0.arrows c.1.arrows x)
       ∙ ap (λ y. act_arrows h becomes words c.1.arrows y r) front
-      ∙ nothing_acts h words rules becomes k c.1.arrows r
+      ∙ nothing_acts h becomes words c.1.arrows r
 
   -- all terms of a relation act, also those of the bound's length or more
   terms_act : (terms : List Term) → All (IsTerm h) terms → (x : Path → ℕ) → IsCombination h words x → (r : Path)
@@ -181,7 +181,7 @@ module _ (h : Header) (words : List Path) (rules : List Rule) (becomes : Path �
         ∙ ap (λ x. x p) (composite_acts u a.path v y)))
         ∙ sym (linear-sum h.field (act_arrows h becomes words v.arrows) (act_arrows-linear h becomes words v.arrows) r.terms (λ (a : Term). a.coef) (λ a. act_arrows h becomes words a.path.arrows y') p)
         ∙ linear-same (act_arrows h becomes words v.arrows) _ (λ q. 0) (λ q. sym (terms_act r.terms is.terms y' s' q) ∙ acts_as_zero q) p
-        ∙ nothing_acts h words rules becomes k v.arrows p
+        ∙ nothing_acts h becomes words v.arrows p
   ]
     where
       is : IsRelation h r
@@ -240,7 +240,7 @@ module _ (h : Header) (words : List Path) (rules : List Rule) (becomes : Path �
           | inl o ↦ ap (mul h.field (x v)) (elim (cases_eq v.start p.start) [
             | inl e ↦ ap (λ a. act_arrows h becomes words v.arrows (path_element h.bound (trivial_path a)) p) (sym e)
                 ∙ ap (λ y. y p) (along v o) ∙ path_element-other h.bound v p d
-            | inr f ↦ starts_apart h words rules becomes k v.arrows p.start v.start v.end (let two = IsInIdeal-long h k.are.allowed x m v n in omega (arith, two))
+            | inr f ↦ starts_apart h becomes words v.arrows (trivial_path p.start) v.start v.end (let two = IsInIdeal-long h k.are.allowed x m v n in omega (arith, two))
                 (word_short h words rules becomes k v o).path.leads f p
           ]) ∙ mul_zero h.field (x v)
         ]

@@ -48,7 +48,7 @@ product-trivial t x p l =
     ∙ product-composite t (trivial_path p.start) x (trivial_path p.end) p refl refl (subst (λ w. path_length w < t) (sym is) l)
 
 -- a product is zero at a path with another start, or another end
-product-other_ends : (t : ℕ) (u : Path) (x : Path → ℕ) (v p : Path) → ((p.start ≡ u.start) × (p.end ≡ v.end) → ⊥) → product_between t u x v p ≡ 0
+pub product-other_ends : (t : ℕ) (u : Path) (x : Path → ℕ) (v p : Path) → ((p.start ≡ u.start) × (p.end ≡ v.end) → ⊥) → product_between t u x v p ≡ 0
 product-other_ends t u x v p d = elim (cases_eq (product_between t u x v p) 0) [
   | inl z ↦ z
   | inr n ↦ absurd (d (runs_between-ends u v p (product_support t u x v p n).between))

@@ -31,19 +31,8 @@ use Rattle.alg_table.proofs.Between.{cases_path}
 use Rattle.alg_table.proofs.ElementLemmas.{path_element-self, path_element-other, path_element-long, path_element-below, path_element_support}
 use Rattle.alg_table.proofs.Combinations.{IsCombination}
 use Rattle.alg_table.proofs.SumsOver.{sum_over_below, sum_over-same, sum_over-zeros, sum_over-add, mul-sum_over, IsLinear, linear-same, linear-zero, linear-sum}
-use Rattle.alg_table.proofs.Acting.{sum_over-one, act_arrow-linear, act_arrows-linear, act_terms-linear, act_arrows-append, act_arrow-word}
+use Rattle.alg_table.proofs.Acting.{act_arrows-linear, act_arrow-word, combination_sum}
 use Rattle.alg_table.proofs.Reducing.{AreRules, becomes_below, becomes-outside}
-
--- a path is in a list or not
-pub cases_listed : (ps : List Path) (p : Path) → Contains ps p ⊎ (Contains ps p → ⊥)
-cases_listed [] p = inr (Contains-nil p)
-cases_listed (x ∷ ps) p = elim (cases_path x p) [
-  | inl e ↦ inl (subst (Contains (x ∷ ps)) e (Contains-head x ps))
-  | inr n ↦ elim (cases_listed ps p) [
-    | inl m ↦ inl (Contains-behind x ps p m)
-    | inr d ↦ inr (λ m. elim (Contains-cons_cases x ps p m) [ inl e ↦ n e | inr c ↦ d c ])
-  ]
-]
 
 -- the arrows of a path are arrows
 pub leads_arrows : (Q : Quiver) (u : ℕ) (xs : List ℕ) (w : ℕ) → Leads Q u xs w → All (λ a. a < arrow_count Q) xs
@@ -96,18 +85,6 @@ module _ (h : Header) (words : List Path) (rules : List Rule) (becomes : Path �
   acts_on_word a l w m e = fun_ext (λ r. act_arrow-word h becomes words a w r k.listed.ascending m (word_short w m).short e
       (becomes_below h rules k.are becomes k.reduction (concat w (arrow_path h.quiver a)) (word_then_arrow a l w m e) r))
 
-  acts_apart : (a : ℕ) (w : Path) → (w.end ≡ source h.quiver a → ⊥) → act_arrow h becomes words a (path_element h.bound w) ≡ (λ r. 0)
-  unfolding act_arrow
-  acts_apart a w d = fun_ext (λ r. sum_over-zeros h.field words _ (λ v m. elim (cases_eq v.end (source h.quiver a)) [
-    | inl e ↦ cond-true _ _ 0 (eq-eqb _ _ e)
-        ∙ ap (λ c. mul h.field c (becomes (concat v (arrow_path h.quiver a)) r)) (path_element-other h.bound w v (λ i. d (ap (λ (x : Path). x.end) i ∙ e)))
-        ∙ zero_mul h.field _
-    | inr n ↦ cond-false _ _ 0 (ne_eqb _ _ n)
-  ]))
-
-  pub nothing_acts : (xs : List ℕ) (r : Path) → act_arrows h becomes words xs (λ p. 0) r ≡ 0
-  nothing_acts xs r = linear-zero h.field (act_arrows h becomes words xs) (act_arrows-linear h becomes words xs) r
-
   -- the arrows of a word lead from a front of it to the word
   pub along_word : (xs : List ℕ) (u w : Path) → IsPath h.quiver u → Contains words w → w.start ≡ u.start → w.arrows ≡ u.arrows ++ xs
       → act_arrows h becomes words xs (path_element h.bound u) ≡ path_element h.bound w
@@ -130,22 +107,11 @@ module _ (h : Header) (words : List Path) (rules : List Rule) (becomes : Path �
       acts_on_word a l u u_word meets ∙ fun_ext (λ r. k.reduction.stays next (word_short next front) (k.listed.only next front).1 r) in
       ap (act_arrows h becomes words xs) step ∙ along_word xs next w next_is m s arrows
 
-  -- a combination of words is the sum of its words
-  sum_of_words : (x : Path → ℕ) → IsCombination h words x → (r : Path) → x r ≡ sum_over h.field words (λ w. mul h.field (x w) (path_element h.bound w r))
-  sum_of_words x s r = elim (cases_listed words r) [
-    | inl m ↦
-        let at : mul h.field (x r) (path_element h.bound r r) ≡ x r = ap (mul h.field (x r)) (path_element-self h.bound r (word_short r m).short) ∙ mul_one h.field (x r) (s.small r) in
-        sym (sum_over-one h.field words (λ w. mul h.field (x w) (path_element h.bound w r)) r k.listed.ascending m (subst (λ n. n < order h.field) (sym at) (s.small r))
-        (λ v n d. ap (mul h.field (x v)) (path_element-other h.bound v r d) ∙ mul_zero h.field (x v)) ∙ at)
-    | inr n ↦ s.outside r n ∙ sym (sum_over-zeros h.field words _ (λ w m.
-        ap (mul h.field (x w)) (path_element-other h.bound w r (λ e. n (subst (Contains words) e m))) ∙ mul_zero h.field (x w)))
-  ]
-
   -- what is linear and takes the words to zero takes their combinations to zero
   pub vanishes : (L : (Path → ℕ) → Path → ℕ) → IsLinear h.field L → ((w : Path) → Contains words w → (r : Path) → L (path_element h.bound w) r ≡ 0)
       → (x : Path → ℕ) → IsCombination h words x → (r : Path) → L x r ≡ 0
   vanishes L l z x s r =
-      linear-same L x (λ p. sum_over h.field words (λ w. mul h.field (x w) (path_element h.bound w p))) (sum_of_words x s) r
+      linear-same L x (λ p. sum_over h.field words (λ w. mul h.field (x w) (path_element h.bound w p))) (combination_sum h words (record { ascending = k.listed.ascending; short = λ w m. (word_short w m).short }) x s) r
       ∙ linear-sum h.field L l words x (path_element h.bound) r
       ∙ sum_over-zeros h.field words _ (λ w m. ap (mul h.field (x w)) (z w m r) ∙ mul_zero h.field (x w))
 
@@ -167,11 +133,3 @@ module _ (h : Header) (words : List Path) (rules : List Rule) (becomes : Path �
   arrows_of_words [] l x s = s
   arrows_of_words (a ∷ xs) l x s = arrows_of_words xs (All-tail (λ b. b < arrow_count h.quiver) a xs l) (act_arrow h becomes words a x)
       (arrow_of_words a (All-head (λ b. b < arrow_count h.quiver) a xs l) x)
-
-  -- paths that do not start where a trivial path is
-  pub starts_apart : (xs : List ℕ) (v s w : ℕ) → 0 < length xs → Leads h.quiver s xs w → (s ≡ v → ⊥) → (r : Path)
-      → act_arrows h becomes words xs (path_element h.bound (trivial_path v)) r ≡ 0
-  unfolding act_arrows
-  starts_apart [] v s w n l d r = absurd (omega (arith, n))
-  starts_apart (a ∷ xs) v s w n l d r =
-      ap (λ x. act_arrows h becomes words xs x r) (acts_apart a (trivial_path v) (λ e. d (sym l.1 ∙ sym e))) ∙ nothing_acts xs r

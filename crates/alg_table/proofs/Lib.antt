@@ -24,3 +24,4 @@ pub mod Congruence
 pub mod NormalFactors
 pub mod NormalForms
 pub mod ClausesSuffice
+pub mod ClausesNecessary

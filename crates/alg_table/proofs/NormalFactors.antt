@@ -36,9 +36,9 @@ whole_factor Q f p i l =
     let before : i.before ≡ trivial_path i.before.start = trivial_from_length Q i.before i.before_is (omega (arith, lengths, l)) in
     let behind : i.behind ≡ trivial_path i.behind.start = trivial_from_length Q i.behind i.behind_is (omega (arith, lengths, l)) in
     sym (i.whole ∙ ap₂ (λ u v. concat u (concat f v))
-        (before ∙ ap trivial_path (ap (λ (x : Path). x.end) (sym before) ∙ i.meets_before))
-        (behind ∙ ap trivial_path (sym i.meets_behind))
-      ∙ ap (concat (trivial_path f.start)) (concat-trivial_right f) ∙ concat-trivial_left f)
+    (before ∙ ap trivial_path (ap (λ (x : Path). x.end) (sym before) ∙ i.meets_before))
+    (behind ∙ ap trivial_path (sym i.meets_behind))
+    ∙ ap (concat (trivial_path f.start)) (concat-trivial_right f) ∙ concat-trivial_left f)
 
 -- the greatest path of a product
 pub greatest_between : (t : ℕ) (u m v : Path) (x : Path → ℕ) → Meets u m → Meets m v → path_length (composite u m v) < t → IsGreatestPath x m
@@ -104,14 +104,14 @@ cases_normal h ok p s = elim (cases_pivot rows (length rows) c.place) [
 last_once : (Q : Quiver) → HasEnds Q → (p front : Path) (a : ℕ) → IsThenArrow Q p front a → (u v : Path) → IsPath Q u → IsPath Q v → Meets u v → concat u v ≡ p → path_length v ≡ 1 → u ≡ front
 last_once Q e p front a t u v hu hv m w l =
     (cut_once Q p (path_length front) u v front (arrow_path Q a)
-      (record { front_is = hu; rest_is = hv; meets = m; whole = w; front_length = omega (arith, length-then_arrow Q p front a t, path_length-concat u v, ap path_length w, l) })
-      (record { front_is = t.front_is; rest_is = IsPath-arrow Q a e t.arrow_is; meets = t.meets; whole = t.whole; front_length = refl })).0
+    (record { front_is = hu; rest_is = hv; meets = m; whole = w; front_length = omega (arith, length-then_arrow Q p front a t, path_length-concat u v, ap path_length w, l) })
+    (record { front_is = t.front_is; rest_is = IsPath-arrow Q a e t.arrow_is; meets = t.meets; whole = t.whole; front_length = refl })).0
 
 first_once : (Q : Quiver) → HasEnds Q → (p : Path) (a : ℕ) (rest : Path) → IsArrowThen Q p a rest → (u v : Path) → IsPath Q u → IsPath Q v → Meets u v → concat u v ≡ p → path_length u ≡ 1 → v ≡ rest
 first_once Q e p a rest t u v hu hv m w l =
     (cut_once Q p 1 u v (arrow_path Q a) rest
-      (record { front_is = hu; rest_is = hv; meets = m; whole = w; front_length = l })
-      (record { front_is = IsPath-arrow Q a e t.arrow_is; rest_is = t.rest_is; meets = t.meets; whole = t.whole; front_length = refl })).1
+    (record { front_is = hu; rest_is = hv; meets = m; whole = w; front_length = l })
+    (record { front_is = IsPath-arrow Q a e t.arrow_is; rest_is = t.rest_is; meets = t.meets; whole = t.whole; front_length = refl })).1
 
 -- a factor is one of the front, or of the rest, or the path itself
 pub cases_factor : (Q : Quiver) → HasEnds Q → (f p : Path) → IsPath Q p → (i : IsFactor Q f p) → (front : Path) (b : ℕ) → IsThenArrow Q p front b → (c : ℕ) (rest : Path) → IsArrowThen Q p c rest
@@ -123,23 +123,23 @@ cases_factor Q e f p hp i front b tb c rest tc = elim (cases_lt 0 (path_length i
       let hf : IsPath Q f = IsPath-factor Q f p e hp i in
       let inner_is : IsPath Q (concat f s.0) = IsPath-concat Q f s.0 hf s.2.front_is meets in
       let whole : concat (concat i.before (concat f s.0)) (arrow_path Q s.1) ≡ p =
-          concat_assoc i.before (concat f s.0) (arrow_path Q s.1) ∙ ap (concat i.before) (concat_assoc f s.0 (arrow_path Q s.1) ∙ ap (concat f) s.2.whole) ∙ sym i.whole in
+      concat_assoc i.before (concat f s.0) (arrow_path Q s.1) ∙ ap (concat i.before) (concat_assoc f s.0 (arrow_path Q s.1) ∙ ap (concat f) s.2.whole) ∙ sym i.whole in
       let same = last_once Q e p front b tb (concat i.before (concat f s.0)) (arrow_path Q s.1) (IsPath-concat Q i.before (concat f s.0) i.before_is inner_is i.meets_before)
-          (IsPath-arrow Q s.1 e s.2.arrow_is) s.2.meets whole refl in
+      (IsPath-arrow Q s.1 e s.2.arrow_is) s.2.meets whole refl in
       inr (inl (record { before = i.before; behind = s.0; before_is = i.before_is; behind_is = s.2.front_is; meets_before = i.meets_before; meets_behind = meets; whole = sym same }))
   | inr l ↦ elim (cases_lt 0 (path_length i.before)) [
-      | inr k ↦ inl (whole_factor Q f p i (omega (arith, l, k, length-factor Q f p i)))
-      | inl k ↦
-          let s = begins_with_arrow Q i.before e i.before_is k in
-          let meets : Meets s.1 f = ap (λ (x : Path). x.end) s.2.whole ∙ i.meets_before in
-          let hf : IsPath Q f = IsPath-factor Q f p e hp i in
-          let inner_is : IsPath Q (concat f i.behind) = IsPath-concat Q f i.behind hf i.behind_is i.meets_behind in
-          let whole : concat (arrow_path Q s.0) (concat s.1 (concat f i.behind)) ≡ p =
-              sym (concat_assoc (arrow_path Q s.0) s.1 (concat f i.behind)) ∙ ap (λ x. concat x (concat f i.behind)) s.2.whole ∙ sym i.whole in
-          let same = first_once Q e p c rest tc (arrow_path Q s.0) (concat s.1 (concat f i.behind)) (IsPath-arrow Q s.0 e s.2.arrow_is)
-              (IsPath-concat Q s.1 (concat f i.behind) s.2.rest_is inner_is meets) s.2.meets whole refl in
-          inr (inr (record { before = s.1; behind = i.behind; before_is = s.2.rest_is; behind_is = i.behind_is; meets_before = meets; meets_behind = i.meets_behind; whole = sym same }))
-    ]
+    | inr k ↦ inl (whole_factor Q f p i (omega (arith, l, k, length-factor Q f p i)))
+    | inl k ↦
+        let s = begins_with_arrow Q i.before e i.before_is k in
+        let meets : Meets s.1 f = ap (λ (x : Path). x.end) s.2.whole ∙ i.meets_before in
+        let hf : IsPath Q f = IsPath-factor Q f p e hp i in
+        let inner_is : IsPath Q (concat f i.behind) = IsPath-concat Q f i.behind hf i.behind_is i.meets_behind in
+        let whole : concat (arrow_path Q s.0) (concat s.1 (concat f i.behind)) ≡ p =
+        sym (concat_assoc (arrow_path Q s.0) s.1 (concat f i.behind)) ∙ ap (λ x. concat x (concat f i.behind)) s.2.whole ∙ sym i.whole in
+        let same = first_once Q e p c rest tc (arrow_path Q s.0) (concat s.1 (concat f i.behind)) (IsPath-arrow Q s.0 e s.2.arrow_is)
+        (IsPath-concat Q s.1 (concat f i.behind) s.2.rest_is inner_is meets) s.2.meets whole refl in
+        inr (inr (record { before = s.1; behind = i.behind; before_is = s.2.rest_is; behind_is = i.behind_is; meets_before = meets; meets_behind = i.meets_behind; whole = sym same }))
+  ]
 ]
 
 -- a minimal tip that is a factor
@@ -185,20 +185,20 @@ minimal_factor h ok (suc n) p l s t =
           let m = minimal_factor h ok n f.0 (omega (arith, l, length-then_arrow Q p f.0 f.1 f.2)) front_short t1 in
           record { tip = m.tip; factor = IsFactor-trans Q m.tip f.0 p m.factor (front_factor Q e p f.0 f.1 f.2); minimal = m.minimal }
       | inl n1 ↦ elim (cases_normal h ok b.1 rest_short) [
-          | inr t2 ↦
-              let m = minimal_factor h ok n b.1 (omega (arith, l, length-arrow_then Q p b.0 b.1 b.2)) rest_short t2 in
-              record { tip = m.tip; factor = IsFactor-trans Q m.tip b.1 p m.factor (rest_factor Q e p b.0 b.1 b.2); minimal = m.minimal }
-          | inl n2 ↦ record {
-              tip = p;
-              factor = IsFactor-itself Q p e s.path;
-              minimal = record {
-                short = s;
-                tip = t;
-                factors = λ g i d. elim (cases_factor Q e g p s.path i f.0 f.1 f.2 b.0 b.1 b.2) [
-                  | inl same ↦ absurd (d same)
-                  | inr w ↦ elim w [ inl i1 ↦ factor_normal h e g f.0 n1 i1 | inr i2 ↦ factor_normal h e g b.1 n2 i2 ]
-                ];
-              };
-            }
-        ]
+        | inr t2 ↦
+            let m = minimal_factor h ok n b.1 (omega (arith, l, length-arrow_then Q p b.0 b.1 b.2)) rest_short t2 in
+            record { tip = m.tip; factor = IsFactor-trans Q m.tip b.1 p m.factor (rest_factor Q e p b.0 b.1 b.2); minimal = m.minimal }
+        | inl n2 ↦ record {
+          tip = p;
+          factor = IsFactor-itself Q p e s.path;
+          minimal = record {
+            short = s;
+            tip = t;
+            factors = λ g i d. elim (cases_factor Q e g p s.path i f.0 f.1 f.2 b.0 b.1 b.2) [
+              | inl same ↦ absurd (d same)
+              | inr w ↦ elim w [ inl i1 ↦ factor_normal h e g f.0 n1 i1 | inr i2 ↦ factor_normal h e g b.1 n2 i2 ]
+            ];
+          };
+        }
+      ]
     ]

@@ -18,7 +18,7 @@ use Rattle.alg_table.proofs.Combinations.{IsCombination, AreDistinct, combinatio
 use Rattle.alg_table.proofs.IdealLemmas.{IsInIdeal-below, IsInIdeal-same, IsInIdeal-zero, IsInIdeal-sub}
 use Rattle.alg_table.proofs.Quotient.{sub-sub_sub, same_combination}
 use Rattle.alg_table.proofs.AllRows.{IdealRows, ideal_rows, normal_words_are_basis}
-use Rattle.alg_table.proofs.Independent.{cases_listed}
+use Rattle.alg_table.proofs.Acting.{cases_listed}
 
 module _ (h : Header) (ok : IsAllowed h) (words : List Path) (w : AreNormalWords h words) where
   distinct : AreDistinct h.bound words
@@ -43,9 +43,9 @@ module _ (h : Header) (ok : IsAllowed h) (words : List Path) (w : AreNormalWords
       same r = ap (sub h.field (combination h.field h.bound (map x words) words r)) (nothing r)
           ∙ sub_zero h.field _ (combination-below h.field h.bound (map x words) words r)
           ∙ elim (cases_listed words r) [
-              | inl l ↦ combination-map h.field h.bound x words r distinct c.small l
-              | inr l ↦ combination-outside h.field h.bound (map x words) words r l ∙ sym (c.outside r l)
-            ]
+            | inl l ↦ combination-map h.field h.bound x words r distinct c.small l
+            | inr l ↦ combination-outside h.field h.bound (map x words) words r l ∙ sym (c.outside r l)
+          ]
 
   -- two congruent combinations of normal words are equal
   pub same_of_normal : (x y : Path → ℕ) → IsInIdeal h (λ r. sub h.field (x r) (y r)) → IsCombination h words x → IsCombination h words y → (p : Path) → x p ≡ y p
