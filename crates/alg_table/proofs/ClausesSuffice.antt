@@ -84,27 +84,46 @@ rule_greatest h rule short greater = record {
   ];
 }
 
-module _ (h : Header) (words : List Path) (steps : List Step) (rules : List Rule) (ok : IsAllowed h) (claim : IsBasisClaim h words steps rules) (c : MeetsClauses h words steps rules) where
-  pub rule_holds : (rule : Rule) → Contains rules rule → RuleHolds h steps rule
-  rule_holds rule m = All-contains (RuleHolds h steps) rules rule c.rule m
+-- Rules in the ideal, by which words are judged: tips are greater than tails, and the last three clauses hold.
+pub record AreSound (h : Header) (words : List Path) (rules : List Rule) : Type 0 where
+  pub are : AreRules h rules
+  pub short : (rule : Rule) → Contains rules rule → path_length rule.tip < h.bound
+  pub member : (rule : Rule) → Contains rules rule → IsInIdeal h (rule_element h rule)
+  pub reduced : ReducedHolds h rules
+  pub word : WordsHold h words rules
+  pub action : ActionHolds h words rules
 
-  pub are_rules : AreRules h rules
-  are_rules = record {
+-- what meets the clauses is so
+pub are_sound : (h : Header) (words : List Path) (steps : List Step) (rules : List Rule) → IsAllowed h → IsBasisClaim h words steps rules → MeetsClauses h words steps rules → AreSound h words rules
+are_sound h words steps rules ok claim c = record {
+  are = record {
     allowed = ok;
     tips = claim.tips;
     tails = claim.tails;
     greater = All-weaker (RuleHolds h steps) (λ (x : Rule). All (λ (a : Term). IsSmaller a.path x.tip) x.tail.terms) (λ x r. r.greater) rules c.rule;
-  }
+  };
+  short = λ rule m. (holds rule m).short;
+  member = λ rule m. IsInIdeal-same h (element_at (step_elements h steps) rule.step) (rule_element h rule) (holds rule m).derived (steps_are_members h ok steps c.step.named rule.step);
+  reduced = c.reduced;
+  word = c.word;
+  action = c.action;
+}
+  where
+    holds : (rule : Rule) → Contains rules rule → RuleHolds h steps rule
+    holds rule m = All-contains (RuleHolds h steps) rules rule c.rule m
 
-  -- each rule is in the ideal
-  pub rule_member : (rule : Rule) → Contains rules rule → IsInIdeal h (rule_element h rule)
-  rule_member rule m = IsInIdeal-same h (element_at (step_elements h steps) rule.step) (rule_element h rule) (rule_holds rule m).derived (steps_are_members h ok steps c.step.named rule.step)
+module _ (h : Header) (words : List Path) (rules : List Rule) (c : AreSound h words rules) where
+  abbrev ok : IsAllowed h
+  ok = c.are.allowed
+
+  greater_of : (rule : Rule) → Contains rules rule → All (λ (a : Term). IsSmaller a.path rule.tip) rule.tail.terms
+  greater_of rule m = All-contains (λ (x : Rule). All (λ (a : Term). IsSmaller a.path x.tip) x.tail.terms) rules rule c.are.greater m
 
   tip_long : (rule : Rule) → Contains rules rule → 2 ≤ path_length rule.tip
-  tip_long rule m = IsInIdeal-long h ok (rule_element h rule) (rule_member rule m) rule.tip (λ e. omega (arith, sym (rule_at_tip h rule (rule_holds rule m).short (rule_holds rule m).greater) ∙ e))
+  tip_long rule m = IsInIdeal-long h ok (rule_element h rule) (c.member rule m) rule.tip (λ e. omega (arith, sym (rule_at_tip h rule (c.short rule m) (greater_of rule m)) ∙ e))
 
   pub acted_on : AreActedOn h words rules c.action.becomes
-  acted_on = record { are = are_rules; tips_long = tip_long; reduced = c.reduced; listed = c.word; reduction = c.action.reduction }
+  acted_on = record { are = c.are; tips_long = tip_long; reduced = c.reduced; listed = c.word; reduction = c.action.reduction }
 
   act_as_zero : ActAsZero h words c.action.becomes
   act_as_zero = record { relations = c.action.relations; long = c.action.long }
@@ -113,13 +132,13 @@ module _ (h : Header) (words : List Path) (steps : List Step) (rules : List Rule
   becomes = c.action.becomes
 
   becomes_small : (p : Path) → IsPath h.quiver p → (r : Path) → becomes p r < order h.field
-  becomes_small = becomes_below h rules are_rules becomes c.action.reduction
+  becomes_small = becomes_below h rules c.are becomes c.action.reduction
 
   becomes_outside : (p : Path) → IsPath h.quiver p → (r : Path) → (Contains words r → ⊥) → becomes p r ≡ 0
-  becomes_outside = becomes-outside h rules are_rules becomes c.action.reduction words c.word
+  becomes_outside = becomes-outside h rules c.are becomes c.action.reduction words c.word
 
   congruent : (p : Path) → IsPath h.quiver p → IsInIdeal h (λ r. sub h.field (path_element h.bound p r) (becomes p r))
-  congruent = congruent_to_reduction h rules are_rules becomes c.action.reduction rule_member
+  congruent = congruent_to_reduction h rules c.are becomes c.action.reduction c.member
 
   distinct : AreDistinct h.bound words
   distinct = record { ascending = c.word.ascending; short = λ p m. (c.word.only p m).0.short }
@@ -219,14 +238,14 @@ module _ (h : Header) (words : List Path) (steps : List Step) (rules : List Rule
         | inl z ↦ ap (λ n. mul h.field n (becomes v w)) z ∙ zero_mul h.field (becomes v w)
         | inr n ↦ elim (t.greatest.greatest v n) [
           | inl e ↦ absurd (d e)
-          | inr less ↦ ap (mul h.field (t.element v)) (becomes-greater h rules are_rules becomes c.action.reduction v (lists.only v l).0 w (λ e. d (sym e)) (λ g. IsSmaller-asymmetric v w less g))
+          | inr less ↦ ap (mul h.field (t.element v)) (becomes-greater h rules c.are becomes c.action.reduction v (lists.only v l).0 w (λ e. d (sym e)) (λ g. IsSmaller-asymmetric v w less g))
               ∙ mul_zero h.field (t.element v)
         ]
       ]
 
   -- a short path in which a tip occurs is one
   rule_tip : (rule : Rule) → Contains rules rule → IsTip h rule.tip
-  rule_tip rule m = record { element = rule_element h rule; in_ideal = rule_member rule m; greatest = rule_greatest h rule (rule_holds rule m).short (rule_holds rule m).greater }
+  rule_tip rule m = record { element = rule_element h rule; in_ideal = c.member rule m; greatest = rule_greatest h rule (c.short rule m) (greater_of rule m) }
 
   tip_from_occurrence : (p : Path) → IsShortPath h p → (rule : Rule) → Contains rules rule → IsFactor h.quiver rule.tip p → IsTip h p
   tip_from_occurrence p s rule m f = tip_between h rule.tip p (rule_tip rule m) f s.short
@@ -255,14 +274,14 @@ module _ (h : Header) (words : List Path) (steps : List Step) (rules : List Rule
         short = omega (arith, short.short, length-factor h.quiver f rule.tip i);
       }) (λ other n j. c.reduced.tips other rule n m (λ e. d (shorter f i other j e)) (IsFactor-trans h.quiver other.tip f rule.tip j i));
     };
-    tail = All-contains (λ (x : Rule). AreElementTerms h x.tail.terms) rules rule claim.tails m;
-    normal = All-members rule.tail.terms (λ a n. no_tip_normal a.path (tail_term h rules are_rules rule m a n).short
+    tail = All-contains (λ (x : Rule). AreElementTerms h x.tail.terms) rules rule c.are.tails m;
+    normal = All-members rule.tail.terms (λ a n. no_tip_normal a.path (tail_term h rules c.are rule m a n).short
         (All-contains (λ (x : Term). HasNoTip h rules x.path) rule.tail.terms a (All-contains (λ (x : Rule). All (λ (a : Term). HasNoTip h rules a.path) x.tail.terms) rules rule c.reduced.tails m) n));
-    congruent = rule_member rule m;
+    congruent = c.member rule m;
   }
     where
       short : IsShortPath h rule.tip
-      short = record { path = All-contains (λ (x : Rule). IsPath h.quiver x.tip) rules rule claim.tips m; short = (rule_holds rule m).short }
+      short = record { path = All-contains (λ (x : Rule). IsPath h.quiver x.tip) rules rule c.are.tips m; short = c.short rule m }
 
       All-members : (terms : List Term) → ((a : Term) → Contains terms a → IsNormal h a.path) → All (λ (a : Term). IsNormal h a.path) terms
       All-members terms n = All-weaker (Contains terms) (λ (a : Term). IsNormal h a.path) n terms (All-contains_itself terms)
@@ -274,7 +293,7 @@ module _ (h : Header) (words : List Path) (steps : List Step) (rules : List Rule
   rules_are_reduced = record {
     ascending = c.reduced.ascending;
     each = All-weaker (Contains rules) (IsReducedRule h) reduced_rule rules (All-contains_itself rules);
-    all = λ p minimal. elim (cases_occurrence h rules ok.quiver.ends claim.tips p minimal.short.path) [
+    all = λ p minimal. elim (cases_occurrence h rules ok.quiver.ends c.are.tips p minimal.short.path) [
       | inr n ↦ absurd (word_no_tip p (c.word.all p minimal.short n) minimal.tip)
       | inl o ↦
           let f : IsFactor h.quiver o.rule.tip p = record { before = o.before; behind = o.behind; before_is = o.before_is; behind_is = o.behind_is; meets_before = o.meets_before; meets_behind = o.meets_behind; whole = o.whole } in

@@ -25,3 +25,4 @@ pub mod NormalFactors
 pub mod NormalForms
 pub mod ClausesSuffice
 pub mod ClausesNecessary
+pub mod ReductionExists
