@@ -6,9 +6,11 @@ use Rattle.linear_algebra.specs.Field.{Gf, order, add, mul}
 use Rattle.linear_algebra.specs.FieldLaws.{add_zero, zero_add, add_zero_zero, add_mul, mul_add, mul_zero, mul_one, zero_mul, mul_assoc, mul_left_comm, one_mul, mul_below, order-pos}
 use Rattle.quiver_paths.specs.declared.Path.{Path}
 use mathlib.Core.Path.{fun_ext}
-use Rattle.quiver_paths.specs.Path.{Leads, path_length, concat, arrow_path}
+use Rattle.quiver_paths.specs.Path.{IsPath, Leads, path_length, concat, arrow_path}
+use Rattle.quiver_paths.proofs.PathLemmas.{IsPath-concat, IsPath-arrow, same_path}
+use Rattle.std.proofs.lemmas.List.{append_assoc, append-nil}
 use Rattle.quiver_paths.specs.PathOrder.{IsSmaller, IsAscending}
-use Rattle.quiver_paths.specs.Quiver.{source}
+use Rattle.quiver_paths.specs.Quiver.{HasEnds, arrow_count, source}
 use Rattle.quiver_paths.proofs.ListLemmas.{Contains-head, Contains-behind, Contains-cons_cases, Contains-nil, AllPairs-head, AllPairs-tail}
 use Rattle.quiver_paths.proofs.PathOrderLemmas.{IsSmaller-irreflexive}
 use Rattle.alg_table.specs.declared.Term.{Term}
@@ -46,11 +48,11 @@ cases_listed (x ∷ ps) p = elim (cases_path x p) [
   ]
 ]
 
-chosen-add : (q : Gf) (b : Bool) (u v : ℕ) → (if b then add q u v else 0) ≡ add q (if b then u else 0) (if b then v else 0)
+pub chosen-add : (q : Gf) (b : Bool) (u v : ℕ) → (if b then add q u v else 0) ≡ add q (if b then u else 0) (if b then v else 0)
 chosen-add q true u v = refl
 chosen-add q false u v = sym (add_zero_zero q)
 
-chosen-mul : (q : Gf) (b : Bool) (c u : ℕ) → (if b then mul q c u else 0) ≡ mul q c (if b then u else 0)
+pub chosen-mul : (q : Gf) (b : Bool) (c u : ℕ) → (if b then mul q c u else 0) ≡ mul q c (if b then u else 0)
 chosen-mul q true c u = refl
 chosen-mul q false c u = sym (mul_zero q c)
 
@@ -65,6 +67,10 @@ combination_sum h words d x s r = elim (cases_listed words r) [
   | inr n ↦ s.outside r n ∙ sym (sum_over-zeros h.field words _ (λ w m.
       ap (mul h.field (x w)) (path_element-other h.bound w r (λ e. n (subst (Contains words) e m))) ∙ mul_zero h.field (x w)))
 ]
+
+pub chosen-zero : (b : Bool) → ◌≡◌ {A = ℕ} (if b then 0 else 0) 0
+chosen-zero true = refl
+chosen-zero false = refl
 
 module _ (h : Header) (becomes : Path → Path → ℕ) (words : List Path) where
   pub act_arrow-linear : (a : ℕ) → IsLinear h.field (act_arrow h becomes words a)
@@ -117,10 +123,6 @@ module _ (h : Header) (becomes : Path → Path → ℕ) (words : List Path) wher
       (λ v n d. ap (λ c. if eqb v.end (source h.quiver a) then mul h.field c (becomes (concat v (arrow_path h.quiver a)) r) else 0) (path_element-other h.bound w v (λ i. d (sym i)))
       ∙ ap (λ c. if eqb v.end (source h.quiver a) then c else 0) (zero_mul h.field _) ∙ chosen-zero (eqb v.end (source h.quiver a)))
       ∙ at
-    where
-      chosen-zero : (b : Bool) → ◌≡◌ {A = ℕ} (if b then 0 else 0) 0
-      chosen-zero true = refl
-      chosen-zero false = refl
 
   -- an arrow on a path that it does not meet
   acts_apart : (a : ℕ) (w : Path) → (w.end ≡ source h.quiver a → ⊥) → act_arrow h becomes words a (path_element h.bound w) ≡ (λ r. 0)
@@ -142,3 +144,15 @@ module _ (h : Header) (becomes : Path → Path → ℕ) (words : List Path) wher
   starts_apart [] w s e n l d r = absurd (omega (arith, n))
   starts_apart (a ∷ xs) w s e n l d r =
       ap (λ x. act_arrows h becomes words xs x r) (acts_apart a w (λ i. d (sym l.1 ∙ sym i))) ∙ nothing_acts xs r
+
+  -- where one arrow takes what a path becomes to what the path with the arrow becomes, so do several
+  pub along_by : HasEnds h.quiver
+      → ((b : ℕ) → b < arrow_count h.quiver → (p : Path) → IsPath h.quiver p → p.end ≡ source h.quiver b → act_arrow h becomes words b (becomes p) ≡ becomes (concat p (arrow_path h.quiver b)))
+      → (xs : List ℕ) (p : Path) (v : ℕ) → IsPath h.quiver p → Leads h.quiver p.end xs v
+      → act_arrows h becomes words xs (becomes p) ≡ becomes (record { start = p.start; end = v; arrows = p.arrows ++ xs })
+  unfolding act_arrows
+  along_by e step [] p v hp l = ap becomes (same_path p (record { start = p.start; end = v; arrows = p.arrows ++ [] }) refl l (sym (append-nil p.arrows)))
+  along_by e step (b ∷ xs) p v hp l =
+      ap (act_arrows h becomes words xs) (step b l.0 p hp (sym l.1))
+      ∙ along_by e step xs (concat p (arrow_path h.quiver b)) v (IsPath-concat h.quiver p (arrow_path h.quiver b) hp (IsPath-arrow h.quiver b e l.0) (sym l.1)) l.2
+      ∙ ap becomes (same_path (record { start = p.start; end = v; arrows = (p.arrows ++ b ∷ []) ++ xs }) (record { start = p.start; end = v; arrows = p.arrows ++ b ∷ xs }) refl refl (append_assoc p.arrows (b ∷ []) xs))

@@ -36,7 +36,7 @@ use Rattle.alg_table.proofs.IdealProducts.{product-product_apart, product-mul}
 use Rattle.alg_table.proofs.IdealSteps.{product-other_ends, IsInIdeal-times_arrow}
 use Rattle.alg_table.proofs.IdealActs.{parallel_terms, product-terms}
 use Rattle.alg_table.proofs.SumsOver.{sum_over_below, sum_over-nil, sum_over-same, sum_over-zeros, IsLinear, linear-same, linear-sum}
-use Rattle.alg_table.proofs.Acting.{combination_sum, starts_apart}
+use Rattle.alg_table.proofs.Acting.{combination_sum, along_by, starts_apart}
 use Rattle.alg_table.proofs.Reducing.{sum_between_below, sum_between-zeros}
 use Rattle.alg_table.proofs.Congruence.{sub_telescope, product-sub, product-tip, sums_congruent, rewritten_congruent}
 use Rattle.alg_table.proofs.ClausesSuffice.{sum_of_terms-outside, term_at}
@@ -223,22 +223,12 @@ module _ (h : Header) (ok : IsAllowed h) (words : List Path) (w : AreNormalWords
       (IsInIdeal-times_arrow h ok.quiver.ends (λ s. sub h.field (path_element h.bound p s) (form p s)) b l (normal_form_congruent h ok words w p hp)))
       (arrow_congruent b l (form p) (normal_form_is h ok words w p)))) r))
 
-  -- arrows take the normal form of a path to that of the path with the arrows
-  along_path : (xs : List ℕ) (p : Path) (v : ℕ) → IsPath h.quiver p → Leads h.quiver p.end xs v
-      → act_arrows h form words xs (form p) ≡ form (record { start = p.start; end = v; arrows = p.arrows ++ xs })
-  unfolding act_arrows
-  along_path [] p v hp l = ap form (same_path p (record { start = p.start; end = v; arrows = p.arrows ++ [] }) refl l (sym (append-nil p.arrows)))
-  along_path (b ∷ xs) p v hp l =
-      ap (act_arrows h form words xs) (acts_on_form b l.0 p hp (sym l.1))
-      ∙ along_path xs (concat p (arrow_path h.quiver b)) v (IsPath-concat h.quiver p (arrow_path h.quiver b) hp (IsPath-arrow h.quiver b ok.quiver.ends l.0) (sym l.1)) l.2
-      ∙ ap form (same_path (record { start = p.start; end = v; arrows = (p.arrows ++ b ∷ []) ++ xs }) (record { start = p.start; end = v; arrows = p.arrows ++ b ∷ xs }) refl refl (append_assoc p.arrows (b ∷ []) xs))
-
   -- so a path takes a word that it meets to the normal form of their composite, and other words to zero
   word_along : (v : Path) → Contains words v → (p : Path) → IsPath h.quiver p → v.end ≡ p.start → (r : Path)
       → act_arrows h form words p.arrows (path_element h.bound v) r ≡ form (concat v p) r
   word_along v m p hp e r =
       ap (λ x. act_arrows h form words p.arrows x r) (fun_ext (λ s. sym (normal_form-word h ok words w v m s)))
-      ∙ ap (λ x. x r) (along_path p.arrows v p.end (w.only v m).short.path (subst (λ s. Leads h.quiver s p.arrows p.end) (sym e) hp.leads))
+      ∙ ap (λ x. x r) (along_by h form words ok.quiver.ends acts_on_form p.arrows v p.end (w.only v m).short.path (subst (λ s. Leads h.quiver s p.arrows p.end) (sym e) hp.leads))
 
   pub action_holds : ActionHolds h words rules
   unfolding act_terms
