@@ -5,3 +5,10 @@ mod RelatedLaws
 pub mod Steps
 mod PlaceLaws
 mod ScriptLaws
+mod TokenRanges
+mod LineRanges
+mod SoundStatements
+mod SoundParts
+mod StatementSizes
+mod LineSizes
+pub mod LawfulScripts
