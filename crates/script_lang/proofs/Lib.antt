@@ -4,6 +4,7 @@ mod ListReading
 mod RelatedLaws
 pub mod Steps
 mod PlaceLaws
+mod Decided
 mod ScriptLaws
 mod TokenRanges
 mod LineRanges
