@@ -11,7 +11,7 @@ use crate::tables::{
 use std::marker::Model;
 
 /// A finite field of 2, 3, 4, 5, 7, 8, 9, 11, 13, 16, 25 or 27 elements. Its elements are the numbers below its size.
-#[derive(Clone, Copy)]
+#[derive(Clone, Copy, PartialEq, Eq, Debug)]
 pub struct Field {
     q: u32,
 }
