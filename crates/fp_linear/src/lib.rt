@@ -6,6 +6,7 @@ mod blocks;
 mod echelon;
 mod field;
 mod matrix;
+mod multiples;
 mod scratch;
 mod separate;
 mod tables;
