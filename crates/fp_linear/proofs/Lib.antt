@@ -7,6 +7,7 @@ pub mod KernelOf
 pub mod Matrices
 pub mod MultipleTables
 pub mod Products
+pub mod RankOf
 pub mod Result
 pub mod RowLoops
 pub mod RowClearing

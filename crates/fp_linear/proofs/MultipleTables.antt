@@ -1,5 +1,5 @@
 -- The tables of sums with multiples.
-use Rattle.std.proofs.Common.{ℕ, ◌<◌, ◌≤◌, ◌≡◌, ◌+◌, ◌-◌, ◌*◌, ◌/◌, ◌%◌, List, refl, ap, ◌∙◌, arith, get_or, length, take, drop}
+use Rattle.std.proofs.Common.{ℕ, ◌<◌, ◌≡◌, ◌+◌, ◌-◌, ◌*◌, ◌%◌, List, refl, ap, ◌∙◌, arith, get_or, length, take, drop}
 use Rattle.std.proofs.lemmas.List.{length-take-le, length-drop, get_or-take, get_or-drop}
 use Rattle.std.proofs.lemmas.Nat.{div-mul-add, mod-mul-add, mul-add-lt, row_fits}
 use Rattle.linear_algebra.specs.Field.{Gf, f9, f25, f27, order, polynomial, coefficients, number, plus, times, multiple, front, top, remainder, add, mul}

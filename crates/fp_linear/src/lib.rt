@@ -5,6 +5,7 @@ mod add;
 mod blocks;
 mod echelon;
 mod field;
+pub mod laws;
 mod matrix;
 mod multiples;
 mod scratch;
