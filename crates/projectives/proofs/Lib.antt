@@ -1,3 +1,5 @@
 pub mod Families
 pub mod RadicalWords
+pub mod SmallAlgebras
+pub mod TrivialWords
 pub mod Yoneda
