@@ -1,4 +1,5 @@
 pub mod Families
+pub mod ProjectiveRadical
 pub mod RadicalWords
 pub mod SmallAlgebras
 pub mod TrivialWords

@@ -1,4 +1,5 @@
 pub mod Families
+pub mod Generators
 pub mod Projective
 pub mod SmallAlgebras
 pub mod Words
