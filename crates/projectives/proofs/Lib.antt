@@ -1,6 +1,9 @@
+pub mod Covers
 pub mod Families
+pub mod Generators
 pub mod ProjectiveRadical
 pub mod RadicalWords
 pub mod SmallAlgebras
 pub mod TrivialWords
+pub mod Units
 pub mod Yoneda

@@ -18,6 +18,7 @@ use Rattle.representations.specs.Rep.{Rep, along, value_of_relation, IsMod}
 use Rattle.representations.proofs.Paths.{along-trivial, along-then, along_arrow}
 use Rattle.projectives.specs.Words.{IsWord, IsWordBasis, word_at, along_word, projective}
 use Rattle.projectives.specs.SmallAlgebras.{loop_quiver, loop_algebra, loop_count, loop_power, loop_word, loop_act, loop_words, kronecker_quiver, kronecker_algebra, kronecker_source, kronecker_target, kronecker_count, kronecker_arrow, kronecker_word, kronecker_act, kronecker_words}
+use Rattle.projectives.proofs.Units.{unit_same, unit_other}
 use Rattle.projectives.proofs.TrivialWords.{without_arrows}
 
 -- Where the matrices of all arrows are strictly upper triangular, that of a path of k arrows has zeros up to k places right of the diagonal.
@@ -247,12 +248,6 @@ module _ (q : Gf) where
         here (inl l) = along_arrow X 1
         here (inr l) = absurd (omega arith)
 
-    unit-same : (i : ℕ) → i < 2 → (unit q 2 i).at 0 i ≡ 1
-    unit-same i h = unit-at q 2 i i ∙ one-at q 2 i i h ∙ delta-same i
-
-    unit-else : (i j : ℕ) → i < 2 → i ≢ j → (unit q 2 i).at 0 j ≡ 0
-    unit-else i j h d = unit-at q 2 i j ∙ one-at q 2 i j h ∙ delta-other i j d
-
     combine_two : {m n : ℕ} (c : ℕ → ℕ) (g : ℕ → Mat q m n) {x y : ℕ} → c 0 ≡ x → c 1 ≡ y → combine 2 c g ≡ x ⊙ g 0 ⊞ y ⊙ g 1
     unfolding combine
     combine_two c g d e = ap₂ (λ a b. a ⊞ b) (zeros_add (c 0 ⊙ g 0) ∙ ap (λ x. x ⊙ g 0) d) (ap (λ x. x ⊙ g 1) e)
@@ -261,10 +256,10 @@ module _ (q : Gf) where
         → along_word (kronecker_words q) X v (kronecker_source a) i · X.mat a ≡ combine (kronecker_count v (kronecker_target a)) ((kronecker_act q v a).at i) (along_word (kronecker_words q) X v (kronecker_target a))
     kronecker_acts zero zero zero h =
         ap (λ z. z · X.mat 0) along_first ∙ one_mul_mat (X.mat 0)
-        ∙ sym (combine_two _ _ (unit-same 0 (omega arith)) (unit-else 0 1 (omega arith) (λ e. omega arith)) ∙ simp (one_scale, zero_scale, add_zeros) along_a)
+        ∙ sym (combine_two _ _ (unit_same q 2 0 (omega arith)) (unit_other q 2 0 1 (omega arith) (λ e. omega arith)) ∙ simp (one_scale, zero_scale, add_zeros) along_a)
     kronecker_acts zero (suc zero) zero h =
         ap (λ z. z · X.mat 1) along_first ∙ one_mul_mat (X.mat 1)
-        ∙ sym (combine_two _ _ (unit-else 1 0 (omega arith) (λ e. omega arith)) (unit-same 1 (omega arith)) ∙ simp (one_scale, zero_scale, zeros_add) along_b)
+        ∙ sym (combine_two _ _ (unit_other q 2 1 0 (omega arith) (λ e. omega arith)) (unit_same q 2 1 (omega arith)) ∙ simp (one_scale, zero_scale, zeros_add) along_b)
     kronecker_acts zero zero (suc i) h = absurd (omega arith)
     kronecker_acts zero (suc zero) (suc i) h = absurd (omega arith)
     kronecker_acts zero (suc (suc a)) i h = absurd (not-suc-le-zero h)
