@@ -1,6 +1,7 @@
 pub mod Covers
 pub mod Families
 pub mod Generators
+pub mod Places
 pub mod ProjectiveRadical
 pub mod RadicalWords
 pub mod SmallAlgebras
