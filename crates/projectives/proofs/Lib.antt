@@ -1,3 +1,4 @@
+pub mod CanonicalRows
 pub mod Covers
 pub mod Families
 pub mod Generators
