@@ -1,3 +1,4 @@
+pub mod CanonicalCovers
 pub mod CanonicalRows
 pub mod Covers
 pub mod Families

@@ -3,6 +3,7 @@ pub mod Covers
 pub mod Families
 pub mod Generators
 pub mod Projective
+pub mod Resolutions
 pub mod SmallAlgebras
 pub mod Words
 pub mod Yoneda
