@@ -6,6 +6,7 @@ pub mod Generators
 pub mod Places
 pub mod ProjectiveRadical
 pub mod RadicalWords
+pub mod Resolutions
 pub mod SmallAlgebras
 pub mod TrivialWords
 pub mod Units
