@@ -25,14 +25,14 @@ use Rattle.projectives.proofs.Units.{unit_same, unit_other}
 use Rattle.projectives.proofs.Generators.{rows_at-at, rows_at-here, rows_at-elsewhere}
 use Rattle.projectives.proofs.Places.{IsListOfFree}
 
-is_among-true : (n : ℕ) (pivot : ℕ → ℕ) (c : ℕ) → is_among n pivot c ≡ true → (i : ℕ) × (i < n) × (pivot i ≡ c)
+pub is_among-true : (n : ℕ) (pivot : ℕ → ℕ) (c : ℕ) → is_among n pivot c ≡ true → (i : ℕ) × (i < n) × (pivot i ≡ c)
 is_among-true zero pivot c e = absurd (false≢true e)
 is_among-true (suc n) pivot c e = elim (cases_eq (pivot n) c) [
   | inl s ↦ (n, omega arith, s)
   | inr d ↦ let r = is_among-true n pivot c (sym (cond-false (eqb (pivot n) c) true (is_among n pivot c) (ne_eqb (pivot n) c d)) ∙ e) in (r.0, (let b = r.1 in omega arith), r.2)
 ]
 
-is_among-false : (n : ℕ) (pivot : ℕ → ℕ) (c : ℕ) → is_among n pivot c ≡ false → (i : ℕ) → i < n → pivot i ≢ c
+pub is_among-false : (n : ℕ) (pivot : ℕ → ℕ) (c : ℕ) → is_among n pivot c ≡ false → (i : ℕ) → i < n → pivot i ≢ c
 is_among-false zero pivot c e i h s = not-suc-le-zero h
 is_among-false (suc n) pivot c e i h s = elim (cases_eq (pivot n) c) [
   | inl t ↦ false≢true (sym e ∙ cond-true (eqb (pivot n) c) true (is_among n pivot c) (eq-eqb (pivot n) c t))

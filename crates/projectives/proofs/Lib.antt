@@ -3,6 +3,7 @@ pub mod CanonicalRows
 pub mod Covers
 pub mod Families
 pub mod Generators
+pub mod KernelCovers
 pub mod Places
 pub mod ProjectiveRadical
 pub mod RadicalWords
