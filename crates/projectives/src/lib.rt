@@ -3,4 +3,6 @@
 #![tactic(auto)]
 
 pub mod examples;
+pub mod minimal_covers;
+pub mod minimal_resolutions;
 pub mod projectivity;

@@ -1,0 +1,73 @@
+//! The laws of minimal covers by projective modules. Chapters are those of Assem, Simson, Skowroński, volume 1.
+
+ghost use Rattle.std.specs.Prelude.{◌≡◌, ◌<◌, ℕ};
+ghost use Rattle.linear_algebra.specs.Field.{Gf};
+ghost use Rattle.linear_algebra.specs.Matrix.{Row, ◌·◌};
+ghost use Rattle.representations.specs.Quiver.{BoundQuiver};
+ghost use Rattle.representations.specs.Rep.{Rep, IsMod};
+ghost use Rattle.representations.specs.Hom.{Hom};
+ghost use Rattle.representations.specs.Module.{IsMono, IsEpi, IsExact};
+ghost use Rattle.representations.specs.Radical.{IsInRadical};
+ghost use Rattle.projectives.specs.Words.{Words, IsWordBasis};
+ghost use Rattle.projectives.specs.Families.{projectives, generator_of};
+ghost use Rattle.projectives.specs.Generators.{IsIndependentModuloRadical, SpansModuloRadical, VanishesAtTrivialWords};
+ghost use Rattle.projectives.specs.Covers.{KernelInRadical, IsMinimalCover, generator_value};
+ghost use Rattle.projectives.specs.Canonical.{canonical_vertices};
+ghost use Rattle.projectives.specs.Resolutions.{projectives_at, whole, IsCanonicalCover};
+
+/// The radical of a projective module: a row of a sum of projective modules at vertices lies in the radical exactly where its
+/// coefficients at the trivial words are zero. So the generators are a basis modulo the radical. (Chapter I, 4.5 and 5, and III, 2.4.)
+pub fn radical_of_projective()
+    ensures vanishes { (q : Gf) (A : BoundQuiver) (W : Words q A.quiver) (B : IsWordBasis A W) (k : ℕ)
+        (v : ℕ → ℕ) (w : ℕ) (x : Row q ((projectives W k v).dim w))
+        → IsInRadical (projectives W k v) w x → VanishesAtTrivialWords A W B k v w x }
+    ensures lies { (q : Gf) (A : BoundQuiver) (W : Words q A.quiver) (B : IsWordBasis A W) (k : ℕ)
+        (v : ℕ → ℕ) (w : ℕ) (x : Row q ((projectives W k v).dim w))
+        → VanishesAtTrivialWords A W B k v w x → IsInRadical (projectives W k v) w x }
+    ensures independent { (q : Gf) (A : BoundQuiver) (W : Words q A.quiver) (B : IsWordBasis A W) (k : ℕ)
+        (v : ℕ → ℕ) → IsIndependentModuloRadical (projectives W k v) k v (generator_of A W B k v) }
+    ensures span { (q : Gf) (A : BoundQuiver) (W : Words q A.quiver) (B : IsWordBasis A W) (k : ℕ)
+        (v : ℕ → ℕ) → SpansModuloRadical (projectives W k v) k v (generator_of A W B k v) }
+{}
+
+/// When a homomorphism out of a sum of projective modules is a minimal cover: it is surjective exactly where the values of the generators
+/// span the module modulo the radical, and a surjection has its kernel in the radical exactly where they are independent modulo the
+/// radical. (Chapter I, 5.6 and 5.8.)
+pub fn cover_criterion()
+    ensures onto { (q : Gf) (A : BoundQuiver) (W : Words q A.quiver) (B : IsWordBasis A W) (k : ℕ)
+        (v : ℕ → ℕ) (X : Rep q A.quiver) → IsMod A X → (f : Hom (projectives W k v) X)
+        → SpansModuloRadical X k v (generator_value A W B k v f) → IsEpi f }
+    ensures span { (q : Gf) (A : BoundQuiver) (W : Words q A.quiver) (B : IsWordBasis A W) (k : ℕ)
+        (v : ℕ → ℕ) (X : Rep q A.quiver) (f : Hom (projectives W k v) X)
+        → IsEpi f → SpansModuloRadical X k v (generator_value A W B k v f) }
+    ensures minimal { (q : Gf) (A : BoundQuiver) (W : Words q A.quiver) (B : IsWordBasis A W) (k : ℕ)
+        (v : ℕ → ℕ) (X : Rep q A.quiver) (f : Hom (projectives W k v) X)
+        → IsIndependentModuloRadical X k v (generator_value A W B k v f) → KernelInRadical f }
+    ensures independent { (q : Gf) (A : BoundQuiver) (W : Words q A.quiver) (B : IsWordBasis A W) (k : ℕ)
+        (v : ℕ → ℕ) (X : Rep q A.quiver) (f : Hom (projectives W k v) X)
+        → IsEpi f → KernelInRadical f
+        → IsIndependentModuloRadical X k v (generator_value A W B k v f) }
+{}
+
+/// The same for what covers the kernel of d, where i is an inclusion of the kernel and the rows x of it are the values of the generators:
+/// the kernel of f lies in the radical exactly where the rows x are independent modulo the radical of the kernel of d. (Chapter I, 5.)
+pub fn kernel_cover_criterion()
+    ensures minimal { (q : Gf) (A : BoundQuiver) (W : Words q A.quiver) (B : IsWordBasis A W) (k : ℕ)
+        (v : ℕ → ℕ) (N X Y : Rep q A.quiver) (i : Hom N X) → IsMono i → (d : Hom X Y) → IsExact i d
+        → (f : Hom (projectives W k v) X) → IsExact f d → (x : (j : ℕ) → Row q (N.dim (v j)))
+        → ((j : ℕ) → j < k → x j · i.at (v j) ≡ generator_value A W B k v f j)
+        → IsIndependentModuloRadical N k v x → KernelInRadical f }
+    ensures independent { (q : Gf) (A : BoundQuiver) (W : Words q A.quiver) (B : IsWordBasis A W) (k : ℕ)
+        (v : ℕ → ℕ) (N X Y : Rep q A.quiver) (i : Hom N X) → IsMono i → (d : Hom X Y) → IsExact i d
+        → (f : Hom (projectives W k v) X) → IsExact f d → (x : (j : ℕ) → Row q (N.dim (v j)))
+        → ((j : ℕ) → j < k → x j · i.at (v j) ≡ generator_value A W B k v f j)
+        → KernelInRadical f → IsIndependentModuloRadical N k v x }
+{}
+
+/// Each module has a minimal cover: by its canonical generators, the basis rows at the columns where the reduced row form of its radical
+/// has no pivot. (Chapter I, 5.8, and III, 2.4.)
+pub fn each_has_minimal_cover()
+    ensures { (q : Gf) (A : BoundQuiver) (W : Words q A.quiver) (B : IsWordBasis A W) (X : Rep q A.quiver)
+        → IsMod A X → (f : Hom (projectives_at W (canonical_vertices X)) X)
+        × IsMinimalCover f × IsCanonicalCover A W B (whole X) (canonical_vertices X) f }
+{}
