@@ -6,9 +6,10 @@ use Rattle.std.proofs.lemmas.Bool.{cases_lt, cases_eq}
 use Rattle.linear_algebra.specs.Field.{Gf, mul}
 use Rattle.linear_algebra.specs.FieldLaws.{mul_zero, zero_mul}
 use Rattle.linear_algebra.specs.Sums.{sum-zeros}
-use Rattle.linear_algebra.specs.Matrix.{Mat, Mat-eq, Row, zeros, reshape, ◌⊞◌, ◌⊟◌, negative, ◌·◌}
+use Rattle.linear_algebra.specs.Matrix.{Mat, Row, zeros, reshape, ◌⊞◌, ◌⊟◌, negative, ◌·◌}
 use Rattle.linear_algebra.proofs.MatrixLaws.{mul_assoc_mat, zeros_mul, add_mul_mat, sub_mul_mat, add_comm_mat, zeros_add, add_negative, negative_scale, add_cancel_mat, sub_self_mat, sub_add_mat}
-use Rattle.linear_algebra.proofs.PartsLaws.{rows_equal, row-mul, reshape-at, Row-eq}
+use Rattle.linear_algebra.proofs.MatrixPaths.{reshape_refl}
+use Rattle.linear_algebra.proofs.PartsLaws.{rows_equal, row-mul, Row-eq}
 use Rattle.representations.specs.Quiver.{Quiver, BoundQuiver}
 use Rattle.representations.specs.Rep.{Rep, along, IsMod}
 use Rattle.representations.specs.Hom.{Hom}
@@ -24,14 +25,11 @@ use Rattle.projectives.specs.Generators.{placed, rows_at, IsIndependentModuloRad
 use Rattle.projectives.specs.Covers.{KernelInRadical, generator_value}
 use Rattle.projectives.proofs.Generators.{rows_at-elsewhere, generators_independent, generators_span}
 
-reshape_same : {q : Gf} {m n : ℕ} (e : m ≡ m) (d : n ≡ n) (x : Mat q m n) → reshape e d x ≡ x
-reshape_same e d x = Mat-eq _ _ (λ i j. reshape-at e d x i j)
-
 module _ {q : Gf} {Q : Quiver} where
   -- A homomorphism takes the rows at a vertex to those of the values.
   placed-mul : {X Y : Rep q Q} (f : Hom X Y) (v w : ℕ) (c : (v ≡ w) ⊎ (v ≢ w)) (x : Row q (X.dim v)) → placed X v w c x · f.at w ≡ placed Y v w c (x · f.at v)
   placed-mul {X} {Y} f v w (inl e) x = path_j (λ w e. reshape refl (ap X.dim e) x · f.at w ≡ reshape refl (ap Y.dim e) (x · f.at v))
-      (ap (λ z. z · f.at v) (reshape_same refl refl x) ∙ sym (reshape_same refl refl (x · f.at v))) e
+      (ap (λ z. z · f.at v) (reshape_refl x) ∙ sym (reshape_refl (x · f.at v))) e
   placed-mul f v w (inr d) x = zeros_mul (f.at w)
 
   pub rows_at-mul : {X Y : Rep q Q} (f : Hom X Y) (k : ℕ) (v : ℕ → ℕ) (x : (j : ℕ) → Row q (X.dim (v j))) (w : ℕ) → rows_at X k v x w · f.at w ≡ rows_at Y k v (λ j. x j · f.at (v j)) w

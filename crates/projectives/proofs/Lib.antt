@@ -7,6 +7,7 @@ pub mod KernelCovers
 pub mod Places
 pub mod ProjectiveRadical
 pub mod RadicalWords
+pub mod ReducedSubmodules
 pub mod Resolutions
 pub mod SmallAlgebras
 pub mod TrivialWords

@@ -94,7 +94,7 @@ module _ (q : Gf) where
       ∙ simp (zero_scale, one_scale, add_zeros, zeros_add))
   loop_combination X M (suc (suc zero)) h = M.long_paths (loop_power 3) refl ∙ sym (
       combine_three _ _ (shift-else 2 0 (λ e. omega arith) (omega arith) (omega arith)) (shift-else 2 1 (λ e. omega arith) (omega arith) (omega arith)) (shift-else 2 2 (λ e. omega arith) (omega arith) (omega arith))
-      ∙ simp (zero_scale, one_scale, add_zeros, zeros_add))
+      ∙ simp (zero_scale, add_zeros))
   loop_combination X M (suc (suc (suc i))) h = absurd (omega arith)
 
   loop_acts : (X : Rep q loop_quiver) → IsMod loop_algebra X → (v a i : ℕ) → i < loop_count v a

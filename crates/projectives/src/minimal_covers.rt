@@ -16,7 +16,7 @@ ghost use Rattle.projectives.specs.Canonical.{canonical_vertices};
 ghost use Rattle.projectives.specs.Resolutions.{projectives_at, whole, IsCanonicalCover};
 
 /// The radical of a projective module: a row of a sum of projective modules at vertices lies in the radical exactly where its
-/// coefficients at the trivial words are zero. So the generators are a basis modulo the radical. (Chapter I, 4.5 and 5, and III, 2.4.)
+/// coefficients at the trivial words are zero. So the generators are a basis modulo the radical. (Chapter III, 2.4.)
 pub fn radical_of_projective()
     ensures vanishes { (q : Gf) (A : BoundQuiver) (W : Words q A.quiver) (B : IsWordBasis A W) (k : ℕ)
         (v : ℕ → ℕ) (w : ℕ) (x : Row q ((projectives W k v).dim w))
@@ -32,7 +32,7 @@ pub fn radical_of_projective()
 
 /// When a homomorphism out of a sum of projective modules is a minimal cover: it is surjective exactly where the values of the generators
 /// span the module modulo the radical, and a surjection has its kernel in the radical exactly where they are independent modulo the
-/// radical. (Chapter I, 5.6 and 5.8.)
+/// radical. (Chapter I, 5.)
 pub fn cover_criterion()
     ensures onto { (q : Gf) (A : BoundQuiver) (W : Words q A.quiver) (B : IsWordBasis A W) (k : ℕ)
         (v : ℕ → ℕ) (X : Rep q A.quiver) → IsMod A X → (f : Hom (projectives W k v) X)
@@ -65,7 +65,7 @@ pub fn kernel_cover_criterion()
 {}
 
 /// Each module has a minimal cover: by its canonical generators, the basis rows at the columns where the reduced row form of its radical
-/// has no pivot. (Chapter I, 5.8, and III, 2.4.)
+/// has no pivot. (Chapter I, 5.)
 pub fn each_has_minimal_cover()
     ensures { (q : Gf) (A : BoundQuiver) (W : Words q A.quiver) (B : IsWordBasis A W) (X : Rep q A.quiver)
         → IsMod A X → (f : Hom (projectives_at W (canonical_vertices X)) X)

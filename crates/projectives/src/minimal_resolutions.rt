@@ -1,17 +1,18 @@
 //! The laws of minimal projective resolutions. Chapters are those of Assem, Simson, Skowroński, volume 1.
 
-ghost use Rattle.std.specs.Prelude.{◌≡◌, ◌≤◌, ℕ, suc};
+ghost use Rattle.std.specs.Prelude.{◌≡◌, ◌≤◌, ℕ, List};
 ghost use Rattle.linear_algebra.specs.Field.{Gf};
 ghost use Rattle.linear_algebra.specs.Rank.{IsInSpan};
 ghost use Rattle.linear_algebra.specs.RowForm.{IsRowReduced};
 ghost use Rattle.representations.specs.Quiver.{Quiver, BoundQuiver};
 ghost use Rattle.representations.specs.Rep.{Rep, IsMod};
+ghost use Rattle.representations.specs.Hom.{Hom};
 ghost use Rattle.representations.specs.Submodule.{Submodule};
 ghost use Rattle.projectives.specs.Words.{Words, IsWordBasis};
-ghost use Rattle.projectives.specs.Resolutions.{reduced, ProjectiveSequence, IsMinimalResolution, IsCanonicalResolution, stage};
+ghost use Rattle.projectives.specs.Resolutions.{projectives_at, reduced, IsCanonicalCover, ProjectiveSequence, IsMinimalResolution, IsCanonicalResolution, stage};
 
 /// Each module has minimal projective resolutions of each length, and so minimal projective presentations: there is one sequence whose
-/// generators are canonical at each place, and each such sequence is a minimal resolution. (Chapter I, 5.10, and appendix A, 4.)
+/// generators are canonical at each place, and each such sequence is a minimal resolution. (Chapter I, 5, and appendix A, 4.)
 pub fn each_has_minimal_resolution()
     ensures exists { (q : Gf) (A : BoundQuiver) (W : Words q A.quiver) (B : IsWordBasis A W)
         (M : Rep q A.quiver)
@@ -22,14 +23,25 @@ pub fn each_has_minimal_resolution()
 {}
 
 /// The resolution with canonical generators is a function of the module: two of them have the same terms and the same homomorphisms up to
-/// the place to which their generators are canonical. A submodule has one basis in reduced row form at each vertex. (Appendix A, 4.)
+/// the place to which their generators are canonical. (Chapter I, 5, and appendix A, 4.)
 pub fn canonical_resolution_is_unique()
-    ensures equal { (q : Gf) (A : BoundQuiver) (W : Words q A.quiver) (B : IsWordBasis A W) (M : Rep q A.quiver)
+    ensures { (q : Gf) (A : BoundQuiver) (W : Words q A.quiver) (B : IsWordBasis A W) (M : Rep q A.quiver)
         → IsMod A M → (R S : ProjectiveSequence W M) (k : ℕ) → IsCanonicalResolution A W B M R k
         → IsCanonicalResolution A W B M S k
         → (n : ℕ) → n ≤ k → stage W M R n ≡ stage W M S n }
-    ensures bases { (q : Gf) (Q : Quiver) (X : Rep q Q) (U V : Submodule X) (pivot : ℕ → ℕ → ℕ)
+{}
+
+/// A submodule has one basis in reduced row form at each vertex. So whether a homomorphism covers it by canonical generators does not
+/// depend on where its inclusion in reduced row form comes from. (Chapter I, 5.)
+pub fn reduced_inclusions()
+    ensures once { (q : Gf) (Q : Quiver) (X : Rep q Q) (U V : Submodule X) (pivot : ℕ → ℕ → ℕ)
         → ((v : ℕ) → IsRowReduced (V.basis v) (pivot v))
         → ((v : ℕ) → IsInSpan (V.basis v) (U.basis v)) → ((v : ℕ) → IsInSpan (U.basis v) (V.basis v))
         → (v : ℕ) → (V.size v ≡ (reduced U).size v) × ((i j : ℕ) → (V.basis v).at i j ≡ ((reduced U).basis v).at i j) }
+    ensures covers { (q : Gf) (A : BoundQuiver) (W : Words q A.quiver) (B : IsWordBasis A W)
+        (X : Rep q A.quiver) (U V : Submodule X) (pivot : ℕ → ℕ → ℕ)
+        → ((v : ℕ) → IsRowReduced (V.basis v) (pivot v))
+        → ((v : ℕ) → IsInSpan (V.basis v) (U.basis v)) → ((v : ℕ) → IsInSpan (U.basis v) (V.basis v))
+        → (vs : List ℕ) (f : Hom (projectives_at W vs) X)
+        → IsCanonicalCover A W B V vs f → IsCanonicalCover A W B (reduced U) vs f }
 {}
