@@ -1,5 +1,6 @@
 pub mod CanonicalCovers
 pub mod CanonicalRows
+pub mod CoverUnique
 pub mod Covers
 pub mod Families
 pub mod Generators

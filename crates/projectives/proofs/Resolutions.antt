@@ -50,8 +50,8 @@ module _ {q : Gf} (A : BoundQuiver) (W : Words q A.quiver) (B : IsWordBasis A W)
   projectives_at_mod vs = projectives_mod A W B _ (vertex_in vs)
 
   -- The step: what covers the kernel of d is exact before d.
-  pub covers_exact : (vs us : List ℕ) (Y : Rep q A.quiver) (d : Hom (projectives_at W vs) Y) (f : Hom (projectives_at W us) (projectives_at W vs)) → CoversSubmodule A W (reduced_kernel d) us f → IsExact f d
-  covers_exact vs us Y d f c = record {
+  pub covers_exact : (X Y : Rep q A.quiver) (d : Hom X Y) (us : List ℕ) (f : Hom (projectives_at W us) X) → CoversSubmodule A W (reduced_kernel d) us f → IsExact f d
+  covers_exact X Y d us f c = record {
     complex = λ w x. let s = c.within w x in ap (λ z. z · d.at w) (sym s.is) ∙ (reduced_kernel_exact d).complex w s.by;
     exact = λ w y e. c.reaches w y ((reduced_kernel_exact d).exact w y e);
   }
@@ -65,7 +65,7 @@ module _ {q : Gf} (A : BoundQuiver) (W : Words q A.quiver) (B : IsWordBasis A W)
     pub canonical_minimal : (R : ProjectiveSequence W M) (k : ℕ) → IsCanonicalResolution A W B M R k → IsMinimalResolution W M R k
     canonical_minimal R k c = record {
       onto = λ w y. (covers 0 (omega arith)).reaches w y (record { by = y; is = mul_one_mat y });
-      exact = λ n h. covers_exact (R.term n) (R.term (suc n)) (target W M R.term n) (R.differential n) (R.differential (suc n)) (covers (suc n) h);
+      exact = λ n h. covers_exact (projectives_at W (R.term n)) (target W M R.term n) (R.differential n) (R.term (suc n)) (R.differential (suc n)) (covers (suc n) h);
       minimal = λ n h. (covers n h).minimal;
     }
       where

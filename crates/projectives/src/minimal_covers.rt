@@ -5,8 +5,8 @@ ghost use Rattle.linear_algebra.specs.Field.{Gf};
 ghost use Rattle.linear_algebra.specs.Matrix.{Row, ◌·◌};
 ghost use Rattle.representations.specs.Quiver.{BoundQuiver};
 ghost use Rattle.representations.specs.Rep.{Rep, IsMod};
-ghost use Rattle.representations.specs.Hom.{Hom};
-ghost use Rattle.representations.specs.Module.{IsMono, IsEpi, IsExact};
+ghost use Rattle.representations.specs.Hom.{Hom, ◌≫◌};
+ghost use Rattle.representations.specs.Module.{IsMono, IsEpi, IsExact, IsIso};
 ghost use Rattle.representations.specs.Radical.{IsInRadical};
 ghost use Rattle.projectives.specs.Words.{Words, IsWordBasis};
 ghost use Rattle.projectives.specs.Families.{projectives, generator_of};
@@ -70,4 +70,14 @@ pub fn each_has_minimal_cover()
     ensures { (q : Gf) (A : BoundQuiver) (W : Words q A.quiver) (B : IsWordBasis A W) (X : Rep q A.quiver)
         → IsMod A X → (f : Hom (projectives_at W (canonical_vertices X)) X)
         × IsMinimalCover f × IsCanonicalCover A W B (whole X) (canonical_vertices X) f }
+{}
+
+/// The minimal cover of a module is unique up to isomorphism: between two of them there is an isomorphism that goes with them.
+/// (Chapter I, 5.)
+pub fn minimal_cover_is_unique()
+    ensures { (q : Gf) (A : BoundQuiver) (W : Words q A.quiver) (B : IsWordBasis A W) (k l : ℕ) (v u : ℕ → ℕ)
+        (X : Rep q A.quiver)
+        → IsMod A X → (f : Hom (projectives W k v) X) (g : Hom (projectives W l u) X)
+        → IsMinimalCover f → IsMinimalCover g
+        → (h : Hom (projectives W k v) (projectives W l u)) × IsIso h × (h ≫ g ≡ f) }
 {}

@@ -7,11 +7,27 @@ ghost use Rattle.linear_algebra.specs.RowForm.{IsRowReduced};
 ghost use Rattle.representations.specs.Quiver.{Quiver, BoundQuiver};
 ghost use Rattle.representations.specs.Rep.{Rep, IsMod};
 ghost use Rattle.representations.specs.Hom.{Hom};
+ghost use Rattle.representations.specs.Module.{IsExact};
 ghost use Rattle.representations.specs.Submodule.{Submodule};
 ghost use Rattle.projectives.specs.Words.{Words, IsWordBasis};
-ghost use Rattle.projectives.specs.Resolutions.{projectives_at, reduced, IsCanonicalCover, ProjectiveSequence, IsMinimalResolution, IsCanonicalResolution, stage};
+ghost use Rattle.projectives.specs.Covers.{KernelInRadical};
+ghost use Rattle.projectives.specs.Resolutions.{projectives_at, reduced, reduced_kernel, IsCanonicalCover, ProjectiveSequence, IsMinimalResolution, IsCanonicalResolution, stage};
 
-/// Each module has minimal projective resolutions of each length, and so minimal projective presentations: there is one sequence whose
+/// The step of a resolution: the kernel of each homomorphism out of a module has a cover by its canonical generators, and such a cover f of
+/// the kernel of d is exact before d, with its kernel in the radical. (Chapter I, 5.)
+pub fn resolution_step()
+    ensures exists { (q : Gf) (A : BoundQuiver) (W : Words q A.quiver) (B : IsWordBasis A W)
+        (X Y : Rep q A.quiver) → IsMod A X → (d : Hom X Y)
+        → (vs : List ℕ) × (f : Hom (projectives_at W vs) X) × IsCanonicalCover A W B (reduced_kernel d) vs f }
+    ensures exact { (q : Gf) (A : BoundQuiver) (W : Words q A.quiver) (B : IsWordBasis A W)
+        (X Y : Rep q A.quiver) → IsMod A X → (d : Hom X Y) (vs : List ℕ) (f : Hom (projectives_at W vs) X)
+        → IsCanonicalCover A W B (reduced_kernel d) vs f → IsExact f d }
+    ensures minimal { (q : Gf) (A : BoundQuiver) (W : Words q A.quiver) (B : IsWordBasis A W)
+        (X Y : Rep q A.quiver) → IsMod A X → (d : Hom X Y) (vs : List ℕ) (f : Hom (projectives_at W vs) X)
+        → IsCanonicalCover A W B (reduced_kernel d) vs f → KernelInRadical f }
+{}
+
+/// Each module has minimal projective resolutions of each length, and so minimal projective presentations: there is a sequence whose
 /// generators are canonical at each place, and each such sequence is a minimal resolution. (Chapter I, 5, and appendix A, 4.)
 pub fn each_has_minimal_resolution()
     ensures exists { (q : Gf) (A : BoundQuiver) (W : Words q A.quiver) (B : IsWordBasis A W)
