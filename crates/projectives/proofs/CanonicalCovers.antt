@@ -17,7 +17,8 @@ use Rattle.projectives.specs.Words.{Words, IsWordBasis}
 use Rattle.projectives.specs.Families.{generator_of}
 use Rattle.projectives.specs.Covers.{KernelInRadical, IsMinimalCover, generator_value}
 use Rattle.projectives.specs.Canonical.{canonical_vertices, canonical_columns}
-use Rattle.projectives.specs.Resolutions.{vertex_in, projectives_at, IsCanonicalCover, Stage}
+use Rattle.projectives.specs.CanonicalCover.{vertex_in, projectives_at, IsCanonicalCover}
+use Rattle.projectives.specs.Resolutions.{Stage}
 use Rattle.projectives.proofs.Families.{from_rows, generator-from_rows, equal_on_generators}
 use Rattle.projectives.proofs.Covers.{minimal_of_independent, epi_of_spans}
 use Rattle.projectives.proofs.Places.{canonical_free}

@@ -26,7 +26,8 @@ use Rattle.projectives.specs.Families.{projectives, generator_of}
 use Rattle.projectives.specs.Generators.{IsIndependentModuloRadical}
 use Rattle.projectives.specs.Covers.{KernelInRadical, generator_value}
 use Rattle.projectives.specs.Canonical.{is_among, is_pivot, canonical_vertices, canonical_columns}
-use Rattle.projectives.specs.Resolutions.{vertex_in, whole, IsCanonicalCover}
+use Rattle.projectives.specs.ReducedSubmodule.{whole}
+use Rattle.projectives.specs.CanonicalCover.{vertex_in, IsCanonicalCover}
 use Rattle.projectives.proofs.Covers.{minimal_of_independent, independent_of_minimal}
 use Rattle.projectives.proofs.CanonicalRows.{is_among-true, is_among-false, independent_same}
 use Rattle.projectives.proofs.CanonicalCovers.{canonical_cover, canonical_cover-value}

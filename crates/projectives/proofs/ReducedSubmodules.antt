@@ -15,7 +15,8 @@ use Rattle.representations.specs.Submodule.{Submodule, sub_rep}
 use Rattle.representations.proofs.RepEqual.{Rep-eq}
 use Rattle.projectives.specs.Words.{Words, IsWordBasis}
 use Rattle.projectives.specs.Canonical.{canonical_vertices, canonical_columns}
-use Rattle.projectives.specs.Resolutions.{vertex_in, projectives_at, reduced, IsCanonicalCover}
+use Rattle.projectives.specs.ReducedSubmodule.{reduced}
+use Rattle.projectives.specs.CanonicalCover.{vertex_in, projectives_at, IsCanonicalCover}
 use Rattle.projectives.proofs.Resolutions.{reduced_once}
 
 -- bases at all vertices

@@ -16,7 +16,9 @@ use Rattle.representations.specs.Submodule.{Submodule, inclusion}
 use Rattle.representations.specs.Kernel.{kernel}
 use Rattle.representations.proofs.Kernels.{kernel_exact}
 use Rattle.projectives.specs.Words.{Words, IsWordBasis}
-use Rattle.projectives.specs.Resolutions.{vertex_in, projectives_at, whole, reduced, reduced_kernel, target, ProjectiveSequence, IsMinimalResolution, covered, IsCanonicalResolution, Stage, stage}
+use Rattle.projectives.specs.ReducedSubmodule.{whole, reduced, reduced_kernel}
+use Rattle.projectives.specs.CanonicalCover.{vertex_in, projectives_at}
+use Rattle.projectives.specs.Resolutions.{target, ProjectiveSequence, IsMinimalResolution, covered, IsCanonicalResolution, Stage, stage}
 use Rattle.projectives.proofs.Families.{projectives_mod}
 use Rattle.projectives.proofs.CanonicalCovers.{CoversSubmodule, cover_of, cover_of_canonical, canonical_covers, canonical_stage, canonical_once}
 

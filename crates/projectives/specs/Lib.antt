@@ -1,8 +1,10 @@
 pub mod Canonical
+pub mod CanonicalCover
 pub mod Covers
 pub mod Families
 pub mod Generators
 pub mod Projective
+pub mod ReducedSubmodule
 pub mod Resolutions
 pub mod SmallAlgebras
 pub mod Words

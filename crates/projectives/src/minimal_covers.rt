@@ -13,7 +13,8 @@ ghost use Rattle.projectives.specs.Families.{projectives, generator_of};
 ghost use Rattle.projectives.specs.Generators.{IsIndependentModuloRadical, SpansModuloRadical, VanishesAtTrivialWords};
 ghost use Rattle.projectives.specs.Covers.{KernelInRadical, IsMinimalCover, generator_value};
 ghost use Rattle.projectives.specs.Canonical.{canonical_vertices};
-ghost use Rattle.projectives.specs.Resolutions.{projectives_at, whole, IsCanonicalCover};
+ghost use Rattle.projectives.specs.ReducedSubmodule.{whole};
+ghost use Rattle.projectives.specs.CanonicalCover.{projectives_at, IsCanonicalCover};
 
 /// The radical of a projective module: a row of a sum of projective modules at vertices lies in the radical exactly where its
 /// coefficients at the trivial words are zero. So the generators are a basis modulo the radical. (Chapter III, 2.4.)

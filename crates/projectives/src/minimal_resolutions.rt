@@ -11,7 +11,9 @@ ghost use Rattle.representations.specs.Module.{IsExact};
 ghost use Rattle.representations.specs.Submodule.{Submodule};
 ghost use Rattle.projectives.specs.Words.{Words, IsWordBasis};
 ghost use Rattle.projectives.specs.Covers.{KernelInRadical};
-ghost use Rattle.projectives.specs.Resolutions.{projectives_at, reduced, reduced_kernel, IsCanonicalCover, ProjectiveSequence, IsMinimalResolution, IsCanonicalResolution, stage};
+ghost use Rattle.projectives.specs.ReducedSubmodule.{reduced, reduced_kernel};
+ghost use Rattle.projectives.specs.CanonicalCover.{projectives_at, IsCanonicalCover};
+ghost use Rattle.projectives.specs.Resolutions.{ProjectiveSequence, IsMinimalResolution, IsCanonicalResolution, stage};
 
 /// The step of a resolution: the kernel of each homomorphism out of a module has a cover by its canonical generators, and such a cover f of
 /// the kernel of d is exact before d, with its kernel in the radical. (Chapter I, 5.)

@@ -1,7 +1,7 @@
 -- By the canonical cover of the kernel and its inclusion.
 use Rattle.representations.specs.Submodule.{sub_rep}
 use Rattle.projectives.specs.Canonical.{canonical_vertices}
-use Rattle.projectives.specs.Resolutions.{reduced_kernel}
+use Rattle.projectives.specs.ReducedSubmodule.{reduced_kernel}
 use Rattle.projectives.proofs.CanonicalCovers.{cover_of, cover_of_canonical, canonical_covers}
 use Rattle.projectives.proofs.Resolutions.{covers_exact}
 use Rattle.projectives.proofs.minimal_resolutions.resolution_step.Goals as goal
