@@ -11,6 +11,7 @@ pub mod RadicalWords
 pub mod ReducedSubmodules
 pub mod Resolutions
 pub mod SmallAlgebras
+pub mod TopSize
 pub mod TrivialWords
 pub mod Units
 pub mod Yoneda

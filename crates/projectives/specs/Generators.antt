@@ -1,5 +1,5 @@
 -- Rows of a module at given vertices, as generators modulo the radical. (Assem, Simson, Skowroński, volume 1, chapter I, 3 and 5, and III, 2.)
-use Rattle.std.specs.Prelude.{ℕ, zero, ◌+◌, ◌<◌, ◌≡◌, ◌≢◌, ◌⊎◌}
+use Rattle.std.specs.Prelude.{ℕ, zero, ◌+◌, ◌<◌, ◌≡◌, ◌≢◌, ◌⊎◌, cond, eqb}
 use Rattle.std.proofs.Common.{inl, inr, refl, ap}
 use Rattle.std.proofs.lemmas.Bool.{cases_eq}
 use Rattle.linear_algebra.specs.Field.{Gf}
@@ -11,6 +11,10 @@ use Rattle.representations.specs.Radical.{IsInRadical}
 use Rattle.projectives.specs.Words.{Words, IsWordBasis}
 use Rattle.projectives.specs.Projective.{of_rows}
 use Rattle.projectives.specs.Families.{projectives}
+
+-- The number of those among v 0, .., v (k − 1) that are w.
+abbrev pub count_at : ℕ → (ℕ → ℕ) → ℕ → ℕ
+count_at k v w = total k (λ j. cond (eqb (v j) w) 1 zero)
 
 -- A row x of X at v, as a row at w: zero where w is another vertex.
 abbrev pub placed : {q : Gf} {Q : Quiver} (X : Rep q Q) (v w : ℕ) → (v ≡ w) ⊎ (v ≢ w) → Row q (X.dim v) → Row q (X.dim w)

@@ -1,6 +1,6 @@
 //! The laws of minimal covers by projective modules. Chapters are those of Assem, Simson, Skowroński, volume 1.
 
-ghost use Rattle.std.specs.Prelude.{◌≡◌, ◌<◌, ℕ};
+ghost use Rattle.std.specs.Prelude.{◌≡◌, ◌<◌, ◌+◌, ℕ};
 ghost use Rattle.linear_algebra.specs.Field.{Gf};
 ghost use Rattle.linear_algebra.specs.Matrix.{Row, ◌·◌};
 ghost use Rattle.representations.specs.Quiver.{BoundQuiver};
@@ -8,9 +8,10 @@ ghost use Rattle.representations.specs.Rep.{Rep, IsMod};
 ghost use Rattle.representations.specs.Hom.{Hom, ◌≫◌};
 ghost use Rattle.representations.specs.Module.{IsMono, IsEpi, IsExact, IsIso};
 ghost use Rattle.representations.specs.Radical.{IsInRadical};
+ghost use Rattle.representations.specs.RadicalModule.{radical};
 ghost use Rattle.projectives.specs.Words.{Words, IsWordBasis};
 ghost use Rattle.projectives.specs.Families.{projectives, generator_of};
-ghost use Rattle.projectives.specs.Generators.{IsIndependentModuloRadical, SpansModuloRadical, VanishesAtTrivialWords};
+ghost use Rattle.projectives.specs.Generators.{count_at, IsIndependentModuloRadical, SpansModuloRadical, VanishesAtTrivialWords};
 ghost use Rattle.projectives.specs.Covers.{KernelInRadical, IsMinimalCover, generator_value};
 ghost use Rattle.projectives.specs.Canonical.{canonical_vertices};
 ghost use Rattle.projectives.specs.ReducedSubmodule.{whole};
@@ -71,6 +72,14 @@ pub fn each_has_minimal_cover()
     ensures { (q : Gf) (A : BoundQuiver) (W : Words q A.quiver) (B : IsWordBasis A W) (X : Rep q A.quiver)
         → IsMod A X → (f : Hom (projectives_at W (canonical_vertices X)) X)
         × IsMinimalCover f × IsCanonicalCover A W B (whole X) (canonical_vertices X) f }
+{}
+
+/// A minimal cover of a module has as many generators at each vertex as the module modulo its radical has dimensions there.
+/// (Chapter I, 5, and III, 2.)
+pub fn number_of_generators()
+    ensures { (q : Gf) (A : BoundQuiver) (W : Words q A.quiver) (B : IsWordBasis A W) (k : ℕ) (v : ℕ → ℕ)
+        (X : Rep q A.quiver) (f : Hom (projectives W k v) X) → IsMinimalCover f
+        → (w : ℕ) → w < A.quiver.vertices → count_at k v w + (radical X).size w ≡ X.dim w }
 {}
 
 /// The minimal cover of a module is unique up to isomorphism: between two of them there is an isomorphism that goes with them.
