@@ -62,4 +62,10 @@ pub fn reduced_inclusions()
         → ((v : ℕ) → IsInSpan (V.basis v) (U.basis v)) → ((v : ℕ) → IsInSpan (U.basis v) (V.basis v))
         → (vs : List ℕ) (f : Hom (projectives_at W vs) X)
         → IsCanonicalCover A W B V vs f → IsCanonicalCover A W B (reduced U) vs f }
+    ensures is_covered { (q : Gf) (A : BoundQuiver) (W : Words q A.quiver) (B : IsWordBasis A W)
+        (X : Rep q A.quiver) (U V : Submodule X) (pivot : ℕ → ℕ → ℕ)
+        → ((v : ℕ) → IsRowReduced (V.basis v) (pivot v))
+        → ((v : ℕ) → IsInSpan (V.basis v) (U.basis v)) → ((v : ℕ) → IsInSpan (U.basis v) (V.basis v))
+        → (vs : List ℕ) (f : Hom (projectives_at W vs) X)
+        → IsCanonicalCover A W B (reduced U) vs f → IsCanonicalCover A W B V vs f }
 {}
