@@ -1,3 +1,4 @@
 pub mod Families
 pub mod RadicalWords
+pub mod TwoSided
 pub mod Yoneda

@@ -1,4 +1,5 @@
 pub mod Families
 pub mod Projective
+pub mod TwoSided
 pub mod Words
 pub mod Yoneda
