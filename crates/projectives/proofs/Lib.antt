@@ -1,3 +1,4 @@
+pub mod Components
 pub mod Families
 pub mod RadicalWords
 pub mod TwoSided

@@ -1,5 +1,10 @@
+pub mod Components
 pub mod Families
+pub mod HomRows
+pub mod Injective
+pub mod Pairing
 pub mod Projective
+pub mod Transposed
 pub mod TwoSided
 pub mod Words
 pub mod Yoneda
