@@ -1,7 +1,10 @@
 pub mod Components
 pub mod DualYoneda
 pub mod Families
+pub mod Pairing
+pub mod PairingSides
 pub mod RadicalWords
+pub mod Transposed
 pub mod Turning
 pub mod TwoSided
 pub mod Yoneda
