@@ -1,6 +1,8 @@
 pub mod Components
 pub mod DualYoneda
 pub mod Families
+pub mod Injectivity
+pub mod Nakayama
 pub mod Pairing
 pub mod PairingSides
 pub mod RadicalWords

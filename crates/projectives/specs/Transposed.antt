@@ -1,6 +1,6 @@
 -- The transposed of a homomorphism between sums of projective modules, and the Nakayama functor. (Assem, Simson, Skowroński, volume 1, chapter III, 2 and 5,
 -- and IV, 2.)
-use Rattle.std.specs.Prelude.{ℕ}
+use Rattle.std.specs.Prelude.{ℕ, ◌≡◌}
 use Rattle.linear_algebra.specs.Field.{Gf}
 use Rattle.linear_algebra.specs.Matrix.{Row}
 use Rattle.linear_algebra.specs.BlockFamilies.{sum_all}
@@ -30,3 +30,9 @@ module _ {q : Gf} {A : BoundQuiver} (T : TwoSided q A) (k : ℕ) (v : ℕ → �
   -- The Nakayama functor on homomorphisms: the dual of the transposed.
   unfoldable pub nakayama : Hom (injectives T k v) (injectives T h u)
   nakayama = dual_hom transposed
+
+-- s is the image under the Nakayama functor of exactly one homomorphism.
+pub record IsNakayama {q : Gf} {A : BoundQuiver} (T : TwoSided q A) (k : ℕ) (v : ℕ → ℕ) (h : ℕ) (u : ℕ → ℕ) (s : Hom (injectives T k v) (injectives T h u)) : Type 0 where
+  pub by : Hom (projectives T.words k v) (projectives T.words h u)
+  pub is : nakayama T k v h u by ≡ s
+  pub once : (d : Hom (projectives T.words k v) (projectives T.words h u)) → nakayama T k v h u d ≡ s → d ≡ by
