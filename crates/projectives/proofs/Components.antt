@@ -1,5 +1,5 @@
 -- The injections and projections of a sum of a family: what they are after one another, and that together they make up the sum.
-use Rattle.std.proofs.Common.{ℕ, ◌<◌, ◌≡◌, ◌≢◌, inl, inr, sym, ap, ◌∙◌}
+use Rattle.std.proofs.Common.{ℕ, ◌<◌, ◌≡◌, ◌≢◌, sym, ap, ◌∙◌}
 use Rattle.std.proofs.lemmas.Bool.{cases_eq}
 use Rattle.linear_algebra.specs.Field.{Gf}
 use Rattle.linear_algebra.specs.Matrix.{Row, zeros, ◌·◌}
@@ -8,10 +8,9 @@ use Rattle.linear_algebra.proofs.MatrixLaws.{mul_assoc_mat, mul_one_mat, mul_zer
 use Rattle.linear_algebra.proofs.BlockFamilies.{sum_all-same, sum_all_mul, mul_sum_all, sum_all-single}
 use Rattle.representations.specs.Quiver.{Quiver}
 use Rattle.representations.specs.Rep.{Rep}
-use Rattle.representations.specs.Hom.{Hom, Hom-eq, ◌≫◌, identity, zero_hom, sum_of}
+use Rattle.representations.specs.Hom.{Hom-eq, ◌≫◌, identity, zero_hom, sum_of}
 use Rattle.representations.specs.Sum.{sum_family}
 use Rattle.representations.proofs.Homs.{compose-at, identity-at, zero_hom-at, same-at, compose_assoc, compose_identity, identity_compose, zero_compose, compose_sum_of, sum_of-at}
-use Rattle.representations.proofs.SumFamilies.{from_family}
 use Rattle.projectives.specs.Words.{Words, projective}
 use Rattle.projectives.specs.Families.{choose, family_in, projectives}
 use Rattle.projectives.specs.Components.{family_out, component, in_component}

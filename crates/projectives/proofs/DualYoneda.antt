@@ -1,25 +1,25 @@
 -- Homomorphisms into a sum of injective modules are lists of columns: this is Yoneda's lemma on the other side, turned round.
-use Rattle.std.proofs.Common.{ℕ, ◌<◌, ◌≤◌, ◌≡◌, ◌⊎◌, inl, inr, refl, sym, ap, ap₂, ◌∙◌}
+use Rattle.std.proofs.Common.{ℕ, ◌<◌, ◌≤◌, ◌≡◌, ◌⊎◌, inl, inr, sym, ap, ap₂, ◌∙◌}
 use Rattle.std.proofs.lemmas.Bool.{cases_lt}
 use Rattle.linear_algebra.specs.Field.{Gf}
-use Rattle.linear_algebra.specs.Matrix.{Mat, Row, Column, zeros, ◌⊞◌, ◌⊙◌, ◌·◌, transpose}
+use Rattle.linear_algebra.specs.Matrix.{Column, ◌⊞◌, ◌⊙◌, ◌·◌, transpose}
 use Rattle.linear_algebra.specs.Parts.{row, column}
 use Rattle.linear_algebra.proofs.MatrixLaws.{mul_assoc_mat, add_mul_mat, scale_mul, transpose_mul, transpose_transpose, transpose_zeros}
 use Rattle.linear_algebra.proofs.PartsLaws.{transpose_row}
-use Rattle.representations.specs.Quiver.{Quiver, BoundQuiver, opposite_algebra}
+use Rattle.representations.specs.Quiver.{BoundQuiver, opposite_algebra}
 use Rattle.representations.specs.Rep.{Rep, IsMod}
-use Rattle.representations.specs.Hom.{Hom, Hom-eq, ◌≫◌, ◌⊕◌, multiple}
-use Rattle.representations.specs.Dual.{dual}
+use Rattle.representations.specs.Hom.{Hom, ◌≫◌, ◌⊕◌, multiple}
+use Rattle.representations.specs.Dual.{dual, dual_hom}
 use Rattle.representations.proofs.Homs.{compose-at, sum-at, multiple-at}
-use Rattle.representations.proofs.Duals.{IsMod-dual, along-reverse}
+use Rattle.representations.proofs.Duals.{dual-at, IsMod-dual, along-reverse}
 use Rattle.projectives.specs.Words.{Words, IsWordBasis, word_at, along_word, projective}
 use Rattle.projectives.specs.Projective.{generator}
-use Rattle.projectives.specs.Yoneda.{yoneda, word_rows, row-word_rows}
+use Rattle.projectives.specs.Yoneda.{yoneda, row-word_rows}
 use Rattle.projectives.specs.Families.{family_in, projectives, generator_of}
 use Rattle.projectives.specs.HomRows.{value, hom_of_rows}
-use Rattle.projectives.specs.TwoSided.{TwoSided, reversed, other}
+use Rattle.projectives.specs.TwoSided.{TwoSided, other}
 use Rattle.projectives.specs.Injective.{injectives, turn}
-use Rattle.projectives.specs.Pairing.{column_of, hom_of_columns}
+use Rattle.projectives.specs.Pairing.{column_of, part_of, hom_of_columns}
 use Rattle.projectives.proofs.Yoneda.{yoneda-generator}
 use Rattle.projectives.proofs.Families.{generator-from_rows, equal_on_generators, generator-hom}
 use Rattle.projectives.proofs.Turning.{turn-at, turn_turn}
@@ -106,3 +106,11 @@ module _ {q : Gf} {A : BoundQuiver} (T : TwoSided q A) (k : ℕ) (v : ℕ → �
           ∙ ap (λ z. (family_in k (λ j. projective (other T) (v j)) j).at w · z) (turn-at (projectives (other T) k v) X s w)
           ∙ ap (λ z. z · transpose (s.at w)) (sym (transpose_transpose ((family_in k (λ j. projective (other T) (v j)) j).at w)))
           ∙ sym (transpose_mul (s.at w) (transpose ((family_in k (λ j. projective (other T) (v j)) j).at w))))
+
+  pub part_columns : (X : Rep q A.quiver) → IsMod A X → (s : Hom X (injectives T k v)) (j w i : ℕ) → i < T.words.count w (v j)
+      → column i ((part_of T k v s j).at w) ≡ along_word T.words X w (v j) i · column_of T k v s j
+  part_columns X M s j w i h =
+      ap (column i)
+      (compose-at s (dual_hom (family_in k (λ j. projective (other T) (v j)) j)) w
+      ∙ ap (λ z. s.at w · z) (dual-at (family_in k (λ j. projective (other T) (v j)) j) w))
+      ∙ columns_along X M s j w i h

@@ -1,7 +1,7 @@
 pub mod Components
 pub mod DualYoneda
+pub mod Extending
 pub mod Families
-pub mod Injectivity
 pub mod Nakayama
 pub mod Pairing
 pub mod PairingSides

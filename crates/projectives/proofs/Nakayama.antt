@@ -3,17 +3,20 @@ use Rattle.std.proofs.Common.{ℕ, ◌≡◌, refl, sym, ap, ap₂, ◌∙◌}
 use Rattle.linear_algebra.specs.Field.{Gf}
 use Rattle.linear_algebra.specs.Matrix.{Mat, ◌⊞◌, ◌⊙◌}
 use Rattle.representations.specs.Quiver.{BoundQuiver, opposite_algebra}
-use Rattle.representations.specs.Rep.{Rep, IsMod}
+use Rattle.representations.specs.Rep.{IsMod}
 use Rattle.representations.specs.Hom.{Hom, ◌≫◌, ◌⊕◌, multiple, identity}
+use Rattle.representations.proofs.Duals.{dual_compose, dual_identity, dual_sum, dual_multiple}
 use Rattle.representations.proofs.Homs.{compose_assoc, compose_identity, identity_compose, sum_compose, multiple_compose}
 use Rattle.projectives.specs.Families.{projectives}
 use Rattle.projectives.specs.TwoSided.{TwoSided, other}
 use Rattle.projectives.specs.Injective.{injectives}
-use Rattle.projectives.specs.Transposed.{nakayama, IsNakayama}
+use Rattle.projectives.specs.Transposed.{transposed, nakayama, IsNakayama}
 use Rattle.projectives.specs.Pairing.{IsFunctional, pairing, IsPairingBefore}
 use Rattle.projectives.proofs.Families.{projectives_mod}
 use Rattle.projectives.proofs.TwoSided.{IsMod-dual_back}
 use Rattle.projectives.proofs.Pairing.{pairing-linear_after, pairing-linear_before, pairing-natural, equal_by_pairing}
+use Rattle.projectives.proofs.Transposed.{nakayama_is}
+use Rattle.projectives.proofs.Turning.{dual_injective}
 use Rattle.projectives.proofs.PairingSides.{perfect_before, pairing-nakayama}
 
 module _ {q : Gf} {A : BoundQuiver} (T : TwoSided q A) where
@@ -97,3 +100,28 @@ module _ {q : Gf} {A : BoundQuiver} (T : TwoSided q A) where
       ∙ ap (λ z. pairing T k v z (identity (injectives T k v))) (compose_assoc d e u)
       ∙ sym (pairing_with_nakayama k v h w d (e ≫ u))
       ∙ pairing-nakayama T h w l x (injectives T k v) (injectives_mod k v) u (nakayama T k v h w d) e)
+
+-- So the transposed goes with identities, composites, sums and multiples; it turns composites round.
+module _ {q : Gf} {A : BoundQuiver} (T : TwoSided q A) where
+  pub transposed-identity : (k : ℕ) (v : ℕ → ℕ) → transposed T k v k v (identity (projectives T.words k v)) ≡ identity (projectives (other T) k v)
+  transposed-identity k v = dual_injective (projectives (other T) k v) (projectives (other T) k v) _ _ (
+      sym (nakayama_is T k v k v (identity (projectives T.words k v))) ∙ nakayama-identity T k v ∙ sym (dual_identity (projectives (other T) k v)))
+
+  pub transposed-compose : (k : ℕ) (v : ℕ → ℕ) (h : ℕ) (w : ℕ → ℕ) (l : ℕ) (x : ℕ → ℕ) (d : Hom (projectives T.words k v) (projectives T.words h w)) (e : Hom (projectives T.words h w) (projectives T.words l x))
+      → transposed T k v l x (d ≫ e) ≡ transposed T h w l x e ≫ transposed T k v h w d
+  transposed-compose k v h w l x d e = dual_injective (projectives (other T) l x) (projectives (other T) k v) _ _ (
+      sym (nakayama_is T k v l x (d ≫ e)) ∙ nakayama-compose T k v h w l x d e
+      ∙ ap₂ (λ a b. a ≫ b) (nakayama_is T k v h w d) (nakayama_is T h w l x e)
+      ∙ sym (dual_compose (transposed T h w l x e) (transposed T k v h w d)))
+
+  pub transposed-sum : (k : ℕ) (v : ℕ → ℕ) (h : ℕ) (w : ℕ → ℕ) (d e : Hom (projectives T.words k v) (projectives T.words h w)) → transposed T k v h w (d ⊕ e) ≡ transposed T k v h w d ⊕ transposed T k v h w e
+  transposed-sum k v h w d e = dual_injective (projectives (other T) h w) (projectives (other T) k v) _ _ (
+      sym (nakayama_is T k v h w (d ⊕ e)) ∙ nakayama-sum T k v h w d e
+      ∙ ap₂ (λ a b. a ⊕ b) (nakayama_is T k v h w d) (nakayama_is T k v h w e)
+      ∙ sym (dual_sum (transposed T k v h w d) (transposed T k v h w e)))
+
+  pub transposed-multiple : (k : ℕ) (v : ℕ → ℕ) (h : ℕ) (w : ℕ → ℕ) (c : ℕ) (d : Hom (projectives T.words k v) (projectives T.words h w)) → transposed T k v h w (multiple c d) ≡ multiple c (transposed T k v h w d)
+  transposed-multiple k v h w c d = dual_injective (projectives (other T) h w) (projectives (other T) k v) _ _ (
+      sym (nakayama_is T k v h w (multiple c d)) ∙ nakayama-multiple T k v h w c d
+      ∙ ap (multiple c) (nakayama_is T k v h w d)
+      ∙ sym (dual_multiple c (transposed T k v h w d)))

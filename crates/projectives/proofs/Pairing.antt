@@ -1,37 +1,30 @@
 -- The three rules of the pairing: it is perfect, natural in the module, and natural in the sum of projective modules.
-use Rattle.std.proofs.Common.{ℕ, zero, suc, ◌<◌, ◌≡◌, ◌≢◌, refl, sym, ap, ap₂, ◌∙◌, arith}
+use Rattle.std.proofs.Common.{ℕ, zero, suc, ◌<◌, ◌≡◌, ◌≢◌, sym, ap, ◌∙◌}
 use Rattle.linear_algebra.specs.Field.{Gf}
-use Rattle.linear_algebra.specs.Matrix.{Mat, Row, Column, zeros, ◌⊞◌, ◌⊙◌, ◌·◌, transpose}
-use Rattle.linear_algebra.specs.Parts.{row, column}
+use Rattle.linear_algebra.specs.Matrix.{Mat, Row, zeros, ◌⊞◌, ◌⊙◌, ◌·◌, transpose}
 use Rattle.linear_algebra.specs.LinearMaps.{IsLinear, matrix_of}
 use Rattle.linear_algebra.specs.BlockFamilies.{sum_all}
-use Rattle.linear_algebra.proofs.MatrixLaws.{mul_assoc_mat, mul_add_mat, add_mul_mat, mul_scale, scale_mul, zero_scale, mul_zeros, zeros_mul, transpose_mul, transpose_transpose, transpose-at}
-use Rattle.linear_algebra.proofs.PartsLaws.{rows_equal, Mat_1-eq, row-mul, column-mul, transpose_row, equal_on_rows}
+use Rattle.linear_algebra.proofs.MatrixLaws.{mul_assoc_mat, mul_add_mat, add_mul_mat, mul_scale, scale_mul, zero_scale, mul_zeros, zeros_mul, transpose-at}
+use Rattle.linear_algebra.proofs.PartsLaws.{Mat_1-eq, equal_on_rows}
 use Rattle.linear_algebra.proofs.LinearMaps.{mul-matrix_of}
-use Rattle.linear_algebra.proofs.BlockFamilies.{sum_all-same, sum_all-add, sum_all-scale, sum_all-single, sum_all-swap, mul_sum_all, sum_all_mul, transpose_sum_all}
-use Rattle.representations.specs.Quiver.{Quiver, BoundQuiver, opposite_algebra}
+use Rattle.linear_algebra.proofs.BlockFamilies.{sum_all-same, sum_all-add, sum_all-scale, sum_all-single}
+use Rattle.representations.specs.Quiver.{Quiver, BoundQuiver}
 use Rattle.representations.specs.Rep.{Rep, IsMod}
-use Rattle.representations.specs.Hom.{Hom, ◌≫◌, ◌⊕◌, multiple, identity, zero_hom, sum_of}
-use Rattle.representations.specs.Dual.{dual, dual_hom}
-use Rattle.representations.proofs.Duals.{IsMod-dual, dual-at}
-use Rattle.representations.proofs.Homs.{compose-at, sum-at, multiple-at, identity-at, zero_hom-at, same-at, compose_assoc, identity_compose, compose_sum, compose_multiple, zero_multiple, sum_of_compose, sum_of-same, zero_compose}
-use Rattle.projectives.specs.Words.{Words, projective, along_word}
+use Rattle.representations.specs.Hom.{Hom, ◌≫◌, ◌⊕◌, multiple, zero_hom, sum_of}
+use Rattle.representations.proofs.Homs.{compose-at, sum-at, multiple-at, zero_hom-at, compose_assoc, identity_compose, compose_sum, compose_multiple, zero_multiple, sum_of_compose, sum_of-same, zero_compose}
+use Rattle.projectives.specs.Words.{projective}
 use Rattle.projectives.specs.Projective.{generator}
 use Rattle.projectives.specs.Yoneda.{yoneda}
 use Rattle.projectives.specs.Families.{family_in, projectives, generator_of}
-use Rattle.projectives.specs.HomRows.{value, hom_of_rows}
-use Rattle.projectives.specs.Components.{family_out, in_component}
-use Rattle.projectives.specs.TwoSided.{TwoSided, other, swap}
-use Rattle.projectives.specs.Injective.{injectives, turn, undual}
-use Rattle.projectives.specs.Transposed.{coefficients, transposed, nakayama}
-use Rattle.projectives.specs.Pairing.{IsFunctional, column_of, hom_of_columns, pairing, IsPairingAfter, IsPairingBefore}
+use Rattle.projectives.specs.HomRows.{value}
+use Rattle.projectives.specs.Components.{family_out}
+use Rattle.projectives.specs.TwoSided.{TwoSided}
+use Rattle.projectives.specs.Injective.{injectives}
+use Rattle.projectives.specs.Pairing.{IsFunctional, column_of, hom_of_columns, pairing, IsPairingAfter}
 use Rattle.projectives.proofs.Yoneda.{generator-yoneda, yoneda-generator, yoneda-sum, yoneda-multiple}
 use Rattle.projectives.proofs.Families.{generator-hom}
 use Rattle.projectives.proofs.Components.{in-out, in-out_other, whole}
-use Rattle.projectives.proofs.TwoSided.{generator_of-back}
-use Rattle.projectives.proofs.Turning.{turn-at, turn_turn, turn-sum, turn-multiple, dual-undual}
-use Rattle.projectives.proofs.DualYoneda.{value_along, equal_by_columns, column-hom_of_columns, column-sum, column-multiple, column-natural, column-turn, columns_along}
-use Rattle.projectives.proofs.Transposed.{transposed-value, value_of_coefficients}
+use Rattle.projectives.proofs.DualYoneda.{equal_by_columns, column-hom_of_columns, column-sum, column-multiple, column-natural}
 
 pub transpose_1 : {q : Gf} (a : Mat q 1 1) → transpose a ≡ a
 transpose_1 a = Mat_1-eq (transpose a) a (transpose-at a 0 0)

@@ -1,7 +1,7 @@
 -- The pairing on the other side, and its third rule: it is natural in the sum of projective modules.
 use Rattle.std.proofs.Common.{ℕ, ◌<◌, ◌≡◌, refl, sym, ap, ap₂, ◌∙◌}
 use Rattle.linear_algebra.specs.Field.{Gf}
-use Rattle.linear_algebra.specs.Matrix.{Mat, Row, Column, zeros, ◌⊞◌, ◌⊙◌, ◌·◌, transpose}
+use Rattle.linear_algebra.specs.Matrix.{Mat, Row, Column, ◌·◌, transpose}
 use Rattle.linear_algebra.specs.Parts.{row, column}
 use Rattle.linear_algebra.specs.BlockFamilies.{sum_all}
 use Rattle.linear_algebra.proofs.MatrixLaws.{mul_assoc_mat, transpose_mul, transpose_transpose}
@@ -9,7 +9,7 @@ use Rattle.linear_algebra.proofs.PartsLaws.{rows_equal, row-mul, column-mul, tra
 use Rattle.linear_algebra.proofs.BlockFamilies.{sum_all-same, sum_all-swap, mul_sum_all, sum_all_mul, transpose_sum_all}
 use Rattle.representations.specs.Quiver.{BoundQuiver, opposite_algebra}
 use Rattle.representations.specs.Rep.{Rep, IsMod}
-use Rattle.representations.specs.Hom.{Hom, ◌≫◌, ◌⊕◌, multiple}
+use Rattle.representations.specs.Hom.{Hom, ◌≫◌}
 use Rattle.representations.specs.Dual.{dual, dual_hom}
 use Rattle.representations.proofs.Duals.{IsMod-dual, dual-at}
 use Rattle.representations.proofs.Homs.{compose-at}
@@ -25,7 +25,7 @@ use Rattle.projectives.proofs.TwoSided.{generator_of-back}
 use Rattle.projectives.proofs.Turning.{turn_turn, turn-sum, turn-multiple, dual-undual, undual-dual}
 use Rattle.projectives.proofs.DualYoneda.{value_along, column-turn, columns_along}
 use Rattle.projectives.proofs.Transposed.{transposed-value, value_of_coefficients, nakayama_is}
-use Rattle.projectives.proofs.Pairing.{transpose_1, value-natural, perfect_after}
+use Rattle.projectives.proofs.Pairing.{transpose_1, value-natural, pairing-linear_after, perfect_after}
 
 module _ {q : Gf} {A : BoundQuiver} (T : TwoSided q A) (k : ℕ) (v : ℕ → ℕ) where
   -- On the other side the dual of u is paired with s turned round, and the value is the same.
@@ -65,6 +65,13 @@ module _ {q : Gf} {A : BoundQuiver} (T : TwoSided q A) (k : ℕ) (v : ℕ → �
           ap (λ (z : Hom (projectives (other T) k v) (dual X)). pairing (swap T) k v {X = dual X} z (dual_hom u)) (sym (turn_turn X (projectives (other T) k v) g))
           ∙ pairing-swap X u (turn g) ∙ e (turn g)));
     }
+
+  -- Homomorphisms out of P with the same pairings are equal.
+  pub equal_by_pairing_before : (X : Rep q A.quiver) → IsMod A X → (f g : Hom (projectives T.words k v) X) → ((s : Hom X (injectives T k v)) → pairing T k v f s ≡ pairing T k v g s) → f ≡ g
+  equal_by_pairing_before X M f g e = p.once f e ∙ sym (p.once g (λ s. refl))
+    where
+      p : IsPairingBefore T k v (pairing T k v g)
+      p = perfect_before X M (pairing T k v g) (pairing-linear_after T k v X g)
 
 -- Natural in the sum of projective modules.
 module _ {q : Gf} {A : BoundQuiver} (T : TwoSided q A) (k : ℕ) (v : ℕ → ℕ) (h : ℕ) (w : ℕ → ℕ) (X : Rep q A.quiver) (M : IsMod A X) (u : Hom (projectives T.words h w) X) (y : Hom X (injectives T k v)) where

@@ -11,7 +11,7 @@ use Rattle.representations.proofs.Sums.{IsMod-family}
 use Rattle.projectives.specs.Words.{projective}
 use Rattle.projectives.specs.Families.{projectives}
 use Rattle.projectives.specs.Components.{component, in_component}
-use Rattle.projectives.specs.HomRows.{value, hom_of_rows}
+use Rattle.projectives.specs.HomRows.{value}
 use Rattle.projectives.specs.TwoSided.{TwoSided, other, swap}
 use Rattle.projectives.specs.Transposed.{coefficients, transposed, nakayama}
 use Rattle.projectives.proofs.Families.{projectives_mod, generator-from_rows, equal_on_generators}

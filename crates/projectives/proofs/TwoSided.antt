@@ -4,7 +4,7 @@ use Rattle.std.proofs.Math.Path.{subst_refl, path_j}
 use Rattle.linear_algebra.specs.Field.{Gf}
 use Rattle.linear_algebra.specs.Matrix.{◌·◌}
 use Rattle.linear_algebra.specs.Parts.{unit}
-use Rattle.representations.specs.Quiver.{BoundQuiver, opposite_relation, opposite_algebra, reverse}
+use Rattle.representations.specs.Quiver.{BoundQuiver, opposite_algebra}
 use Rattle.representations.specs.Rep.{Rep, IsMod}
 use Rattle.representations.specs.Dual.{dual}
 use Rattle.representations.proofs.Duals.{IsMod-dual}

@@ -6,12 +6,13 @@ use Rattle.linear_algebra.specs.Matrix.{Mat, Column, ◌⊞◌, ◌⊙◌, ◌·
 use Rattle.linear_algebra.specs.BlockFamilies.{sum_all}
 use Rattle.representations.specs.Quiver.{Quiver, BoundQuiver, opposite_algebra}
 use Rattle.representations.specs.Rep.{Rep, IsMod}
-use Rattle.representations.specs.Hom.{Hom, ◌⊕◌, multiple}
-use Rattle.representations.specs.Dual.{dual}
+use Rattle.representations.specs.Hom.{Hom, ◌≫◌, ◌⊕◌, multiple}
+use Rattle.representations.specs.Dual.{dual, dual_hom}
 use Rattle.representations.proofs.Duals.{IsMod-dual}
-use Rattle.projectives.specs.Families.{projectives, generator_of}
+use Rattle.projectives.specs.Words.{projective}
+use Rattle.projectives.specs.Families.{family_in, projectives, generator_of}
 use Rattle.projectives.specs.TwoSided.{TwoSided, other}
-use Rattle.projectives.specs.Injective.{injectives, turn}
+use Rattle.projectives.specs.Injective.{injective, injectives, turn}
 use Rattle.projectives.specs.HomRows.{value, hom_of_rows}
 
 -- A linear function from homomorphisms to the field, whose elements are the matrices of one row and one column.
@@ -23,6 +24,10 @@ module _ {q : Gf} {A : BoundQuiver} (T : TwoSided q A) (k : ℕ) (v : ℕ → �
   -- The column of s at the place of generator j: the entries of s at v j there.
   abbrev pub column_of : {X : Rep q A.quiver} → Hom X (injectives T k v) → (j : ℕ) → Column q (X.dim (v j))
   column_of s j = s.at (v j) · transpose (generator_of (opposite_algebra A) (other T) T.opposite_basis k v j)
+
+  -- The component of s in the injective module at v j.
+  abbrev pub part_of : {X : Rep q A.quiver} → Hom X (injectives T k v) → (j : ℕ) → Hom X (injective T (v j))
+  part_of s j = s ≫ dual_hom (family_in k (λ j. projective (other T) (v j)) j)
 
   -- The homomorphism into the sum of injective modules that has the columns y 0, .., y (k − 1).
   unfoldable pub hom_of_columns : (X : Rep q A.quiver) → IsMod A X → ((j : ℕ) → Column q (X.dim (v j))) → Hom X (injectives T k v)

@@ -2,4 +2,5 @@
 //! above cite, and the laws. There is no code here but law functions: the body is empty, and the contract is the law.
 #![tactic(auto)]
 
+pub mod injectivity;
 pub mod projectivity;
