@@ -5,6 +5,7 @@ pub mod Families
 pub mod Nakayama
 pub mod Pairing
 pub mod PairingSides
+pub mod Places
 pub mod RadicalWords
 pub mod Transposed
 pub mod Turning

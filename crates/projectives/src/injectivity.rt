@@ -2,18 +2,20 @@
 //! Skowroński, volume 1. `T : TwoSided q A` is a basis of the algebra A by words that, reversed, are a basis of the opposite algebra;
 //! P is `projectives T.words k v`, the sum of the projective modules at k vertices v, and νP is `injectives T k v`.
 
-ghost use Rattle.std.specs.Prelude.{◌≡◌, ◌<◌, ℕ};
+ghost use Rattle.std.specs.Prelude.{◌≡◌, ◌≢◌, ◌<◌, ◌+◌, ℕ};
 ghost use Rattle.linear_algebra.specs.Field.{Gf};
 ghost use Rattle.linear_algebra.specs.Matrix.{Mat, Row, Column, zeros, ◌·◌, ◌⊞◌, ◌⊙◌};
 ghost use Rattle.linear_algebra.specs.Parts.{column};
-ghost use Rattle.representations.specs.Quiver.{BoundQuiver};
+ghost use Rattle.linear_algebra.specs.BlockFamilies.{sum_all, total};
+ghost use Rattle.representations.specs.Quiver.{Quiver, BoundQuiver};
 ghost use Rattle.representations.specs.Rep.{Rep, IsMod};
 ghost use Rattle.representations.specs.Hom.{Hom, ◌≫◌, identity, ◌⊕◌, multiple};
 ghost use Rattle.representations.specs.Module.{IsMono};
 ghost use Rattle.representations.specs.Sum.{sum_family};
 ghost use Rattle.representations.specs.Dual.{dual, dual_hom};
-ghost use Rattle.projectives.specs.Words.{along_word};
+ghost use Rattle.projectives.specs.Words.{Words, along_word};
 ghost use Rattle.projectives.specs.Families.{projectives};
+ghost use Rattle.projectives.specs.Components.{component, in_component};
 ghost use Rattle.projectives.specs.TwoSided.{TwoSided, other, swap};
 ghost use Rattle.projectives.specs.Injective.{injective, injectives, turn};
 ghost use Rattle.projectives.specs.Transposed.{coefficients, transposed, nakayama, IsNakayama};
@@ -49,9 +51,25 @@ pub fn dual_yoneda()
         → column i ((part_of T k v s j).at w) ≡ along_word T.words X w (v j) i · column_of T k v s j }
 {}
 
-/// The transposed of d : P → P' goes from P' to P on the other side: generator j of P' goes to the row whose component i has the coefficients that
-/// the value of generator i under d has in component j. Transposing twice changes nothing; it turns composites round, and is linear.
-/// (Chapter IV, 2.)
+/// A row of a sum of projective modules is the sum of its components; component i is its part from the place where those before it end.
+/// (Chapter III, 1.)
+pub fn components()
+    ensures places { (q : Gf) (Q : Quiver) (W : Words q Q) (k : ℕ) (v : ℕ → ℕ) (i w : ℕ) → i < k
+        → (x : Row q ((projectives W k v).dim w)) (p : ℕ) → p < W.count (v i) w
+        → (component W k v i w x).at 0 p ≡ x.at 0 (total i (λ j. W.count (v j) w) + p) }
+    ensures inside { (q : Gf) (Q : Quiver) (W : Words q Q) (k : ℕ) (v : ℕ → ℕ) (i w : ℕ) → i < k
+        → (x : Row q (W.count (v i) w)) → component W k v i w (in_component W k v i w x) ≡ x }
+    ensures outside { (q : Gf) (Q : Quiver) (W : Words q Q) (k : ℕ) (v : ℕ → ℕ) (i j w : ℕ) → i < k → i ≢ j
+        → (x : Row q (W.count (v i) w))
+        → component W k v j w (in_component W k v i w x) ≡ zeros q 1 (W.count (v j) w) }
+    ensures whole { (q : Gf) (Q : Quiver) (W : Words q Q) (k : ℕ) (v : ℕ → ℕ) (w : ℕ)
+        (x : Row q ((projectives W k v).dim w))
+        → sum_all k (λ i. in_component W k v i w (component W k v i w x)) ≡ x }
+{}
+
+/// The transposed of d : P → P' goes from P' to P on the other side: generator j of P' goes to the row whose component i has the
+/// coefficients that the value of generator i under d has in component j; both go by the words from w j to v i. Transposing twice changes
+/// nothing; it turns composites round, and is linear. (Chapter IV, 2.)
 pub fn transposition()
     ensures coefficients { (q : Gf) (A : BoundQuiver) (T : TwoSided q A) (k : ℕ) (v : ℕ → ℕ) (h : ℕ) (w : ℕ → ℕ)
         (d : Hom (projectives T.words k v) (projectives T.words h w)) (i j : ℕ) → i < k → j < h
@@ -73,9 +91,9 @@ pub fn transposition()
         → transposed T k v h w (multiple c d) ≡ multiple c (transposed T k v h w d) }
 {}
 
-/// The pairing of Hom (P, X) with Hom (X, νP) is linear on both sides; each functional on the one is the pairing with exactly one member of the
-/// other; it is natural in X, and natural in P: d on the one side is νd on the other; and the other side of the algebra has the same pairing.
-/// (Chapter III, 2 and 5, and IV, 2.)
+/// The pairing of Hom (P, X) with Hom (X, νP) is linear on both sides; each functional on the one is the pairing with exactly one member
+/// of the other; it is natural in X, and natural in P: d on the one side is νd on the other; and the other side of the algebra has the same
+/// pairing. (Chapter III, 2 and 5, and IV, 2.)
 pub fn pairing_rules()
     ensures linear_in_first { (q : Gf) (A : BoundQuiver) (T : TwoSided q A) (k : ℕ) (v : ℕ → ℕ) (X : Rep q A.quiver)
         (s : Hom X (injectives T k v)) → IsFunctional (λ (u : Hom (projectives T.words k v) X). pairing T k v u s) }
