@@ -1,12 +1,13 @@
 -- The Nakayama functor is a functor, linear, full and faithful: all this follows from the three rules of the pairing.
-use Rattle.std.proofs.Common.{ℕ, ◌≡◌, refl, sym, ap, ap₂, ◌∙◌}
+use Rattle.std.proofs.Common.{ℕ, zero, suc, ◌≡◌, refl, sym, ap, ap₂, ◌∙◌}
 use Rattle.linear_algebra.specs.Field.{Gf}
 use Rattle.linear_algebra.specs.Matrix.{Mat, ◌⊞◌, ◌⊙◌}
 use Rattle.representations.specs.Quiver.{BoundQuiver, opposite_algebra}
 use Rattle.representations.specs.Rep.{IsMod}
-use Rattle.representations.specs.Hom.{Hom, ◌≫◌, ◌⊕◌, multiple, identity}
+use Rattle.representations.specs.Hom.{Hom, ◌≫◌, ◌⊕◌, multiple, identity, power}
+use Rattle.representations.specs.Module.{IsIso, IsSplitMono, IsSplitEpi}
 use Rattle.representations.proofs.Duals.{dual_compose, dual_identity, dual_sum, dual_multiple}
-use Rattle.representations.proofs.Homs.{compose_assoc, compose_identity, identity_compose, sum_compose, multiple_compose}
+use Rattle.representations.proofs.Homs.{power-zero, power-suc, compose_assoc, compose_identity, identity_compose, sum_compose, multiple_compose}
 use Rattle.projectives.specs.Families.{projectives}
 use Rattle.projectives.specs.TwoSided.{TwoSided, other}
 use Rattle.projectives.specs.Injective.{injectives}
@@ -100,6 +101,48 @@ module _ {q : Gf} {A : BoundQuiver} (T : TwoSided q A) where
       ∙ ap (λ z. pairing T k v z (identity (injectives T k v))) (compose_assoc d e u)
       ∙ sym (pairing_with_nakayama k v h w d (e ≫ u))
       ∙ pairing-nakayama T h w l x (injectives T k v) (injectives_mod k v) u (nakayama T k v h w d) e)
+
+-- A full and faithful functor keeps and reflects isomorphisms, reflects what splits, and goes with powers.
+module _ {q : Gf} {A : BoundQuiver} (T : TwoSided q A) where
+  pub nakayama-power : (k : ℕ) (v : ℕ → ℕ) (d : Hom (projectives T.words k v) (projectives T.words k v)) (n : ℕ) → nakayama T k v k v (power d n) ≡ power (nakayama T k v k v d) n
+  nakayama-power k v d zero = ap (nakayama T k v k v) (power-zero d) ∙ nakayama-identity T k v ∙ sym (power-zero (nakayama T k v k v d))
+  nakayama-power k v d (suc n) =
+      ap (nakayama T k v k v) (power-suc d n) ∙ nakayama-compose T k v k v k v d (power d n)
+      ∙ ap (λ z. nakayama T k v k v d ≫ z) (nakayama-power k v d n) ∙ sym (power-suc (nakayama T k v k v d) n)
+
+  -- where composites of images are the identity
+  composed_identity : (k : ℕ) (v : ℕ → ℕ) (h : ℕ) (w : ℕ → ℕ) (d : Hom (projectives T.words k v) (projectives T.words h w)) (s : Hom (injectives T h w) (injectives T k v))
+      → nakayama T k v h w d ≫ s ≡ identity (injectives T k v) → d ≫ (nakayama_full T h w k v s).by ≡ identity (projectives T.words k v)
+  composed_identity k v h w d s e = nakayama_faithful T k v k v _ _ (
+      nakayama-compose T k v h w k v d (nakayama_full T h w k v s).by
+      ∙ ap (λ z. nakayama T k v h w d ≫ z) (nakayama_full T h w k v s).is ∙ e ∙ sym (nakayama-identity T k v))
+
+  identity_composed : (k : ℕ) (v : ℕ → ℕ) (h : ℕ) (w : ℕ → ℕ) (d : Hom (projectives T.words k v) (projectives T.words h w)) (s : Hom (injectives T h w) (injectives T k v))
+      → s ≫ nakayama T k v h w d ≡ identity (injectives T h w) → (nakayama_full T h w k v s).by ≫ d ≡ identity (projectives T.words h w)
+  identity_composed k v h w d s e = nakayama_faithful T h w h w _ _ (
+      nakayama-compose T h w k v h w (nakayama_full T h w k v s).by d
+      ∙ ap (λ z. z ≫ nakayama T k v h w d) (nakayama_full T h w k v s).is ∙ e ∙ sym (nakayama-identity T h w))
+
+  module _ (k : ℕ) (v : ℕ → ℕ) (h : ℕ) (w : ℕ → ℕ) (d : Hom (projectives T.words k v) (projectives T.words h w)) where
+    pub nakayama_iso : IsIso d → IsIso (nakayama T k v h w d)
+    nakayama_iso i = record {
+      inverse = nakayama T h w k v i.inverse;
+      right = sym (nakayama-compose T k v h w k v d i.inverse) ∙ ap (nakayama T k v k v) i.right ∙ nakayama-identity T k v;
+      left = sym (nakayama-compose T h w k v h w i.inverse d) ∙ ap (nakayama T h w h w) i.left ∙ nakayama-identity T h w;
+    }
+
+    pub nakayama_reflects_iso : IsIso (nakayama T k v h w d) → IsIso d
+    nakayama_reflects_iso i = record {
+      inverse = (nakayama_full T h w k v i.inverse).by;
+      right = composed_identity k v h w d i.inverse i.right;
+      left = identity_composed k v h w d i.inverse i.left;
+    }
+
+    pub nakayama_reflects_split_mono : IsSplitMono (nakayama T k v h w d) → IsSplitMono d
+    nakayama_reflects_split_mono i = record { retraction = (nakayama_full T h w k v i.retraction).by; is = composed_identity k v h w d i.retraction i.is }
+
+    pub nakayama_reflects_split_epi : IsSplitEpi (nakayama T k v h w d) → IsSplitEpi d
+    nakayama_reflects_split_epi i = record { section = (nakayama_full T h w k v i.section).by; is = identity_composed k v h w d i.section i.is }
 
 -- So the transposed goes with identities, composites, sums and multiples; it turns composites round.
 module _ {q : Gf} {A : BoundQuiver} (T : TwoSided q A) where

@@ -1,5 +1,5 @@
 -- Homomorphisms into a sum of injective modules by columns, and the pairing of Hom (P, X) with Hom (X, νP).
--- (Assem, Simson, Skowroński, volume 1, chapter III, 2 and 5, and IV, 2.)
+-- (Assem, Simson, Skowroński, volume 1, chapter III, 2, and IV, 2.)
 use Rattle.std.specs.Prelude.{ℕ, ◌≡◌}
 use Rattle.linear_algebra.specs.Field.{Gf}
 use Rattle.linear_algebra.specs.Matrix.{Mat, Column, ◌⊞◌, ◌⊙◌, ◌·◌, transpose}

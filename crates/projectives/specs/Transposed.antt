@@ -1,4 +1,4 @@
--- The transposed of a homomorphism between sums of projective modules, and the Nakayama functor. (Assem, Simson, Skowroński, volume 1, chapter III, 2 and 5,
+-- The transposed of a homomorphism between sums of projective modules, and the Nakayama functor. (Assem, Simson, Skowroński, volume 1, chapter III, 2,
 -- and IV, 2.)
 use Rattle.std.specs.Prelude.{ℕ, ◌≡◌}
 use Rattle.linear_algebra.specs.Field.{Gf}

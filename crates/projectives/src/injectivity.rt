@@ -9,8 +9,8 @@ ghost use Rattle.linear_algebra.specs.Parts.{column};
 ghost use Rattle.linear_algebra.specs.BlockFamilies.{sum_all, total};
 ghost use Rattle.representations.specs.Quiver.{Quiver, BoundQuiver};
 ghost use Rattle.representations.specs.Rep.{Rep, IsMod};
-ghost use Rattle.representations.specs.Hom.{Hom, ◌≫◌, identity, ◌⊕◌, multiple};
-ghost use Rattle.representations.specs.Module.{IsMono};
+ghost use Rattle.representations.specs.Hom.{Hom, ◌≫◌, identity, ◌⊕◌, multiple, power};
+ghost use Rattle.representations.specs.Module.{IsMono, IsIso, IsSplitMono, IsSplitEpi};
 ghost use Rattle.representations.specs.Sum.{sum_family};
 ghost use Rattle.representations.specs.Dual.{dual, dual_hom};
 ghost use Rattle.projectives.specs.Words.{Words, along_word};
@@ -31,7 +31,7 @@ pub fn injective_modules()
 
 /// Homomorphisms from X to νP are lists of columns, one for each of the k vertices, of the length of X there: each list of columns is that
 /// of exactly one homomorphism, linearly and naturally in X; and the component of s at the vertex j has, for the word i from w to it, the
-/// matrix of the word on X times the column j. (Chapter III, 2 and 5.)
+/// matrix of the word on X times the column j. (Chapter III, 2.)
 pub fn dual_yoneda()
     ensures columns { (q : Gf) (A : BoundQuiver) (T : TwoSided q A) (k : ℕ) (v : ℕ → ℕ) (X : Rep q A.quiver)
         (M : IsMod A X) (y : (j : ℕ) → Column q (X.dim (v j))) (j : ℕ) → j < k
@@ -93,7 +93,7 @@ pub fn transposition()
 
 /// The pairing of Hom (P, X) with Hom (X, νP) is linear on both sides; each functional on the one is the pairing with exactly one member
 /// of the other; it is natural in X, and natural in P: d on the one side is νd on the other; and the other side of the algebra has the same
-/// pairing. (Chapter III, 2 and 5, and IV, 2.)
+/// pairing. (Chapter III, 2, and IV, 2.)
 pub fn pairing_rules()
     ensures linear_in_first { (q : Gf) (A : BoundQuiver) (T : TwoSided q A) (k : ℕ) (v : ℕ → ℕ) (X : Rep q A.quiver)
         (s : Hom X (injectives T k v)) → IsFunctional (λ (u : Hom (projectives T.words k v) X). pairing T k v u s) }
@@ -116,8 +116,9 @@ pub fn pairing_rules()
         → pairing (swap T) k v {X = dual X} (turn s) (dual_hom u) ≡ pairing T k v u s }
 {}
 
-/// The Nakayama functor ν, which takes d to the dual of the transposed, is a functor, linear, full and faithful: each homomorphism from νP to
-/// νP' is νd for exactly one d : P → P'. (Chapter III, 5, and IV, 2.)
+/// The Nakayama functor ν, which takes d to the dual of the transposed, is a functor, linear, full and faithful: each homomorphism from νP
+/// to νP' is νd for exactly one d : P → P'. So it keeps and reflects isomorphisms, reflects what splits, and goes with powers.
+/// (Chapter III, 2, and IV, 2.)
 pub fn nakayama_functor()
     ensures dual_of_transposed { (q : Gf) (A : BoundQuiver) (T : TwoSided q A) (k : ℕ) (v : ℕ → ℕ) (h : ℕ)
         (w : ℕ → ℕ) (d : Hom (projectives T.words k v) (projectives T.words h w))
@@ -136,6 +137,20 @@ pub fn nakayama_functor()
         → nakayama T k v h w (multiple c d) ≡ multiple c (nakayama T k v h w d) }
     ensures full_and_faithful { (q : Gf) (A : BoundQuiver) (T : TwoSided q A) (k : ℕ) (v : ℕ → ℕ) (h : ℕ)
         (w : ℕ → ℕ) (s : Hom (injectives T k v) (injectives T h w)) → IsNakayama T k v h w s }
+    ensures isomorphisms { (q : Gf) (A : BoundQuiver) (T : TwoSided q A) (k : ℕ) (v : ℕ → ℕ) (h : ℕ) (w : ℕ → ℕ)
+        (d : Hom (projectives T.words k v) (projectives T.words h w)) → IsIso d → IsIso (nakayama T k v h w d) }
+    ensures reflects_isomorphisms { (q : Gf) (A : BoundQuiver) (T : TwoSided q A) (k : ℕ) (v : ℕ → ℕ) (h : ℕ)
+        (w : ℕ → ℕ) (d : Hom (projectives T.words k v) (projectives T.words h w))
+        → IsIso (nakayama T k v h w d) → IsIso d }
+    ensures reflects_split_injections { (q : Gf) (A : BoundQuiver) (T : TwoSided q A) (k : ℕ) (v : ℕ → ℕ) (h : ℕ)
+        (w : ℕ → ℕ) (d : Hom (projectives T.words k v) (projectives T.words h w))
+        → IsSplitMono (nakayama T k v h w d) → IsSplitMono d }
+    ensures reflects_split_surjections { (q : Gf) (A : BoundQuiver) (T : TwoSided q A) (k : ℕ) (v : ℕ → ℕ) (h : ℕ)
+        (w : ℕ → ℕ) (d : Hom (projectives T.words k v) (projectives T.words h w))
+        → IsSplitEpi (nakayama T k v h w d) → IsSplitEpi d }
+    ensures powers { (q : Gf) (A : BoundQuiver) (T : TwoSided q A) (k : ℕ) (v : ℕ → ℕ)
+        (d : Hom (projectives T.words k v) (projectives T.words k v)) (n : ℕ)
+        → nakayama T k v k v (power d n) ≡ power (nakayama T k v k v d) n }
 {}
 
 /// νP is injective, in the strong form: where s : X → νP is zero on each row that f : X → Y takes to zero, s is f and then another
