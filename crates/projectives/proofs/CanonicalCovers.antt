@@ -15,13 +15,14 @@ use Rattle.representations.proofs.Homs.{compose-at}
 use Rattle.representations.proofs.Submodules.{inclusion_mono, IsMod-sub}
 use Rattle.projectives.specs.Words.{Words, IsWordBasis}
 use Rattle.projectives.specs.Families.{generator_of}
-use Rattle.projectives.specs.Covers.{KernelInRadical, IsMinimalCover, generator_value}
+use Rattle.projectives.specs.Covers.{KernelInRadical, IsMinimalCover}
+use Rattle.projectives.specs.HomRows.{value}
 use Rattle.projectives.specs.Canonical.{canonical_vertices, canonical_columns}
 use Rattle.projectives.specs.CanonicalCover.{vertex_in, projectives_at, IsCanonicalCover}
 use Rattle.projectives.specs.Resolutions.{Stage}
 use Rattle.projectives.proofs.Families.{from_rows, generator-from_rows, equal_on_generators}
 use Rattle.projectives.proofs.Covers.{minimal_of_independent, epi_of_spans}
-use Rattle.projectives.proofs.Places.{canonical_free}
+use Rattle.projectives.proofs.CanonicalPlaces.{canonical_free}
 use Rattle.projectives.proofs.CanonicalRows.{independent_same, spans_same, free_independent, free_span}
 
 -- A homomorphism f covers a submodule U minimally: its rows are those of U, and its kernel is in the radical.
@@ -40,7 +41,7 @@ module _ {q : Gf} (A : BoundQuiver) (W : Words q A.quiver) (B : IsWordBasis A W)
     canonical_cover = from_rows A W B (length (canonical_vertices X)) (vertex_in (canonical_vertices X)) X M basis_row
 
     pub canonical_cover-value : (j : ℕ) → j < length (canonical_vertices X)
-        → generator_value A W B (length (canonical_vertices X)) (vertex_in (canonical_vertices X)) canonical_cover j ≡ unit q (X.dim (vertex_in (canonical_vertices X) j)) (get_or (canonical_columns X) j zero)
+        → value A W B (length (canonical_vertices X)) (vertex_in (canonical_vertices X)) canonical_cover j ≡ unit q (X.dim (vertex_in (canonical_vertices X) j)) (get_or (canonical_columns X) j zero)
     unfolding canonical_cover basis_row
     canonical_cover-value j h = generator-from_rows A W B (length (canonical_vertices X)) (vertex_in (canonical_vertices X)) X M basis_row j h
 
@@ -87,7 +88,7 @@ module _ {q : Gf} (A : BoundQuiver) (W : Words q A.quiver) (B : IsWordBasis A W)
     -- What holds of it holds of each canonical cover of U.
     by_canonical : (P : (vs : List ℕ) → Hom (projectives_at W vs) X → Type 0) → P (canonical_vertices (sub_rep U)) cover_of → (vs : List ℕ) (f : Hom (projectives_at W vs) X) → IsCanonicalCover A W B U vs f → P vs f
     by_canonical P p vs f c = path_j
-        (λ vs e. (f : Hom (projectives_at W vs) X) → ((j : ℕ) → j < length vs → generator_value A W B (length vs) (vertex_in vs) f j ≡ row (get_or (canonical_columns (sub_rep U)) j zero) (U.basis (vertex_in vs j))) → P vs f)
+        (λ vs e. (f : Hom (projectives_at W vs) X) → ((j : ℕ) → j < length vs → value A W B (length vs) (vertex_in vs) f j ≡ row (get_or (canonical_columns (sub_rep U)) j zero) (U.basis (vertex_in vs j))) → P vs f)
         (λ f g. subst (P (canonical_vertices (sub_rep U)))
         (equal_on_generators A W B (length (canonical_vertices (sub_rep U))) (vertex_in (canonical_vertices (sub_rep U))) X M cover_of f (λ j h. cover_of_canonical.generators j h ∙ sym (g j h)))
         p)

@@ -23,7 +23,7 @@ use Rattle.projectives.specs.Generators.{placed, rows_at, IsIndependentModuloRad
 use Rattle.projectives.specs.Canonical.{is_among, is_pivot}
 use Rattle.projectives.proofs.Units.{unit_same, unit_other}
 use Rattle.projectives.proofs.Generators.{rows_at-at, rows_at-here, rows_at-elsewhere}
-use Rattle.projectives.proofs.Places.{IsListOfFree}
+use Rattle.projectives.proofs.CanonicalPlaces.{IsListOfFree}
 
 pub is_among-true : (n : ℕ) (pivot : ℕ → ℕ) (c : ℕ) → is_among n pivot c ≡ true → (i : ℕ) × (i < n) × (pivot i ≡ c)
 is_among-true zero pivot c e = absurd (false≢true e)

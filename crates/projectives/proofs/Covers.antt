@@ -22,7 +22,8 @@ use Rattle.projectives.specs.Words.{Words, IsWordBasis}
 use Rattle.projectives.specs.Families.{projectives, generator_of}
 use Rattle.projectives.specs.Yoneda.{row-of_rows}
 use Rattle.projectives.specs.Generators.{placed, rows_at, IsIndependentModuloRadical, SpansModuloRadical}
-use Rattle.projectives.specs.Covers.{KernelInRadical, generator_value}
+use Rattle.projectives.specs.Covers.{KernelInRadical}
+use Rattle.projectives.specs.HomRows.{value}
 use Rattle.projectives.proofs.Generators.{rows_at-elsewhere, generators_independent, generators_span}
 
 module _ {q : Gf} {Q : Quiver} where
@@ -69,13 +70,13 @@ module _ {q : Gf} (A : BoundQuiver) (W : Words q A.quiver) (B : IsWordBasis A W)
   sources w = rows_at (projectives W k v) k v (generator_of A W B k v) w
 
   values : (w : ℕ) → Mat q k (X.dim w)
-  values w = rows_at X k v (generator_value A W B k v f) w
+  values w = rows_at X k v (value A W B k v f) w
 
   to_values : (w : ℕ) (c : Row q k) → c · sources w · f.at w ≡ c · values w
   unfolding sources values
   to_values w c = mul_assoc_mat c (sources w) (f.at w) ∙ ap (λ z. c · z) (rows_at-mul f k v (generator_of A W B k v) w)
 
-  pub minimal_of_independent : IsIndependentModuloRadical X k v (generator_value A W B k v f) → KernelInRadical f
+  pub minimal_of_independent : IsIndependentModuloRadical X k v (value A W B k v f) → KernelInRadical f
   unfolding sources values
   minimal_of_independent independent w x e = elim (cases_lt w A.quiver.vertices) [
     | inl b ↦
@@ -88,7 +89,7 @@ module _ {q : Gf} (A : BoundQuiver) (W : Words q A.quiver) (B : IsWordBasis A W)
     | inr b ↦ subst (IsInRadical (projectives W k v) w) (sym (zero_columns ((projectives W k v).past w b) x)) (radical-zeros 1 w)
   ]
 
-  pub independent_of_minimal : IsEpi f → KernelInRadical f → IsIndependentModuloRadical X k v (generator_value A W B k v f)
+  pub independent_of_minimal : IsEpi f → KernelInRadical f → IsIndependentModuloRadical X k v (value A W B k v f)
   unfolding sources values
   independent_of_minimal epi minimal w b c r =
       let y = radical_lift f epi r in
@@ -98,7 +99,7 @@ module _ {q : Gf} (A : BoundQuiver) (W : Words q A.quiver) (B : IsWordBasis A W)
       (subst (IsInRadical (projectives W k v) w) (sub_add_mat (c · sources w) y.0) (radical-sum (minimal w (c · sources w ⊟ y.0) killed) y.1))
 
   -- Surjective, by what spans modulo the radical.
-  pub spans_of_epi : IsEpi f → SpansModuloRadical X k v (generator_value A W B k v f)
+  pub spans_of_epi : IsEpi f → SpansModuloRadical X k v (value A W B k v f)
   unfolding sources values
   spans_of_epi epi w y =
       let x = epi w y in
@@ -110,7 +111,7 @@ module _ {q : Gf} (A : BoundQuiver) (W : Words q A.quiver) (B : IsWordBasis A W)
         is = ap (λ z. z ⊞ s.rest · f.at w) (sym (to_values w s.by)) ∙ sym (add_mul_mat (s.by · sources w) s.rest (f.at w)) ∙ ap (λ z. z · f.at w) s.is ∙ x.is;
       }
 
-  pub epi_of_spans : IsMod A X → SpansModuloRadical X k v (generator_value A W B k v f) → IsEpi f
+  pub epi_of_spans : IsMod A X → SpansModuloRadical X k v (value A W B k v f) → IsEpi f
   unfolding values
   epi_of_spans M span = nakayama A M f (λ w y.
       let s = span w y in

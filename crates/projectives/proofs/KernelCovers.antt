@@ -24,7 +24,8 @@ use Rattle.representations.proofs.RepEqual.{Rep-eq}
 use Rattle.projectives.specs.Words.{Words, IsWordBasis}
 use Rattle.projectives.specs.Families.{projectives, generator_of}
 use Rattle.projectives.specs.Generators.{IsIndependentModuloRadical}
-use Rattle.projectives.specs.Covers.{KernelInRadical, generator_value}
+use Rattle.projectives.specs.Covers.{KernelInRadical}
+use Rattle.projectives.specs.HomRows.{value}
 use Rattle.projectives.specs.Canonical.{is_among, is_pivot, canonical_vertices, canonical_columns}
 use Rattle.projectives.specs.ReducedSubmodule.{whole}
 use Rattle.projectives.specs.CanonicalCover.{vertex_in, IsCanonicalCover}
@@ -53,17 +54,17 @@ module _ {q : Gf} (A : BoundQuiver) (W : Words q A.quiver) (B : IsWordBasis A W)
   kernel_of_factor h w x e = h w x (mono w (x · onto_kernel.factor.at w) (factor_rows w x ∙ e))
 
   -- Rows of the kernel that are the values of the generators.
-  module _ (x : (j : ℕ) → Row q (N.dim (v j))) (values : (j : ℕ) → j < k → x j · i.at (v j) ≡ generator_value A W B k v f j) where
-    factor_values : (j : ℕ) → j < k → generator_value A W B k v onto_kernel.factor j ≡ x j
+  module _ (x : (j : ℕ) → Row q (N.dim (v j))) (values : (j : ℕ) → j < k → x j · i.at (v j) ≡ value A W B k v f j) where
+    factor_values : (j : ℕ) → j < k → value A W B k v onto_kernel.factor j ≡ x j
     factor_values j h = right_inverse_cancels (i.at (v j)) (injective_right_inverse (i.at (v j)) (mono (v j))) _ (x j)
         (factor_rows (v j) (generator_of A W B k v j) ∙ sym (values j h))
 
     pub kernel_minimal_of_independent : IsIndependentModuloRadical N k v x → KernelInRadical f
     kernel_minimal_of_independent independent = kernel_of_factor (minimal_of_independent A W B k v N onto_kernel.factor
-        (independent_same N k v x (generator_value A W B k v onto_kernel.factor) (λ j h. sym (factor_values j h)) independent))
+        (independent_same N k v x (value A W B k v onto_kernel.factor) (λ j h. sym (factor_values j h)) independent))
 
     pub independent_of_kernel_minimal : KernelInRadical f → IsIndependentModuloRadical N k v x
-    independent_of_kernel_minimal h = independent_same N k v (generator_value A W B k v onto_kernel.factor) x factor_values
+    independent_of_kernel_minimal h = independent_same N k v (value A W B k v onto_kernel.factor) x factor_values
         (independent_of_minimal A W B k v N onto_kernel.factor factor_epi (factor_kernel h))
 
 -- The whole module as a submodule is the module.

@@ -1,10 +1,17 @@
 pub mod CanonicalCovers
+pub mod CanonicalPlaces
 pub mod CanonicalRows
+pub mod Components
 pub mod CoverUnique
 pub mod Covers
+pub mod DualYoneda
+pub mod Extending
 pub mod Families
 pub mod Generators
 pub mod KernelCovers
+pub mod Nakayama
+pub mod Pairing
+pub mod PairingSides
 pub mod Places
 pub mod ProjectiveRadical
 pub mod RadicalWords
@@ -12,6 +19,9 @@ pub mod ReducedSubmodules
 pub mod Resolutions
 pub mod SmallAlgebras
 pub mod TopSize
+pub mod Transposed
 pub mod TrivialWords
+pub mod Turning
+pub mod TwoSided
 pub mod Units
 pub mod Yoneda

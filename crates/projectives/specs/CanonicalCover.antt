@@ -8,7 +8,7 @@ use Rattle.representations.specs.Hom.{Hom}
 use Rattle.representations.specs.Submodule.{Submodule, sub_rep}
 use Rattle.projectives.specs.Words.{Words, IsWordBasis}
 use Rattle.projectives.specs.Families.{projectives}
-use Rattle.projectives.specs.Covers.{generator_value}
+use Rattle.projectives.specs.HomRows.{value}
 use Rattle.projectives.specs.Canonical.{canonical_vertices, canonical_columns}
 
 -- The sum of the projective modules at the vertices of a list.
@@ -22,4 +22,4 @@ projectives_at W vs = projectives W (length vs) (vertex_in vs)
 -- reduced row form of the radical of U has no pivot.
 pub record IsCanonicalCover {q : Gf} (A : BoundQuiver) (W : Words q A.quiver) (B : IsWordBasis A W) {X : Rep q A.quiver} (U : Submodule X) (vs : List ℕ) (f : Hom (projectives_at W vs) X) : Type 0 where
   pub vertices : vs ≡ canonical_vertices (sub_rep U)
-  pub generators : (j : ℕ) → j < length vs → generator_value A W B (length vs) (vertex_in vs) f j ≡ row (get_or (canonical_columns (sub_rep U)) j zero) (U.basis (vertex_in vs j))
+  pub generators : (j : ℕ) → j < length vs → value A W B (length vs) (vertex_in vs) f j ≡ row (get_or (canonical_columns (sub_rep U)) j zero) (U.basis (vertex_in vs j))

@@ -2,13 +2,11 @@
 use Rattle.std.specs.Prelude.{ℕ, ◌≡◌}
 use Rattle.linear_algebra.specs.Field.{Gf}
 use Rattle.linear_algebra.specs.Matrix.{Row, zeros, ◌·◌}
-use Rattle.representations.specs.Quiver.{Quiver, BoundQuiver}
+use Rattle.representations.specs.Quiver.{Quiver}
 use Rattle.representations.specs.Rep.{Rep}
 use Rattle.representations.specs.Hom.{Hom}
 use Rattle.representations.specs.Module.{IsEpi}
 use Rattle.representations.specs.Radical.{IsInRadical}
-use Rattle.projectives.specs.Words.{Words, IsWordBasis}
-use Rattle.projectives.specs.Families.{projectives, generator_of}
 
 -- Each row that f takes to zero lies in the radical.
 abbrev pub KernelInRadical : {q : Gf} {Q : Quiver} {X Y : Rep q Q} → Hom X Y → Type 0
@@ -18,7 +16,3 @@ KernelInRadical {q} {Q} {X} {Y} f = (w : ℕ) (x : Row q (X.dim w)) → x · f.a
 pub record IsMinimalCover {q : Gf} {Q : Quiver} {X Y : Rep q Q} (f : Hom X Y) : Type 0 where
   pub onto : IsEpi f
   pub minimal : KernelInRadical f
-
--- The rows to which a homomorphism out of a sum of projective modules takes the generators.
-abbrev pub generator_value : {q : Gf} (A : BoundQuiver) (W : Words q A.quiver) (B : IsWordBasis A W) (k : ℕ) (v : ℕ → ℕ) {X : Rep q A.quiver} → Hom (projectives W k v) X → (j : ℕ) → Row q (X.dim (v j))
-generator_value A W B k v f j = generator_of A W B k v j · f.at (v j)

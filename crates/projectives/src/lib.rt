@@ -3,6 +3,7 @@
 #![tactic(auto)]
 
 pub mod examples;
+pub mod injectivity;
 pub mod minimal_covers;
 pub mod minimal_resolutions;
 pub mod projectivity;

@@ -12,7 +12,8 @@ ghost use Rattle.representations.specs.RadicalModule.{radical};
 ghost use Rattle.projectives.specs.Words.{Words, IsWordBasis};
 ghost use Rattle.projectives.specs.Families.{projectives, generator_of};
 ghost use Rattle.projectives.specs.Generators.{count_at, IsIndependentModuloRadical, SpansModuloRadical, VanishesAtTrivialWords};
-ghost use Rattle.projectives.specs.Covers.{KernelInRadical, IsMinimalCover, generator_value};
+ghost use Rattle.projectives.specs.Covers.{KernelInRadical, IsMinimalCover};
+ghost use Rattle.projectives.specs.HomRows.{value};
 ghost use Rattle.projectives.specs.Canonical.{canonical_vertices};
 ghost use Rattle.projectives.specs.ReducedSubmodule.{whole};
 ghost use Rattle.projectives.specs.CanonicalCover.{projectives_at, IsCanonicalCover};
@@ -38,17 +39,17 @@ pub fn radical_of_projective()
 pub fn cover_criterion()
     ensures onto { (q : Gf) (A : BoundQuiver) (W : Words q A.quiver) (B : IsWordBasis A W) (k : ℕ)
         (v : ℕ → ℕ) (X : Rep q A.quiver) → IsMod A X → (f : Hom (projectives W k v) X)
-        → SpansModuloRadical X k v (generator_value A W B k v f) → IsEpi f }
+        → SpansModuloRadical X k v (value A W B k v f) → IsEpi f }
     ensures span { (q : Gf) (A : BoundQuiver) (W : Words q A.quiver) (B : IsWordBasis A W) (k : ℕ)
         (v : ℕ → ℕ) (X : Rep q A.quiver) (f : Hom (projectives W k v) X)
-        → IsEpi f → SpansModuloRadical X k v (generator_value A W B k v f) }
+        → IsEpi f → SpansModuloRadical X k v (value A W B k v f) }
     ensures minimal { (q : Gf) (A : BoundQuiver) (W : Words q A.quiver) (B : IsWordBasis A W) (k : ℕ)
         (v : ℕ → ℕ) (X : Rep q A.quiver) (f : Hom (projectives W k v) X)
-        → IsIndependentModuloRadical X k v (generator_value A W B k v f) → KernelInRadical f }
+        → IsIndependentModuloRadical X k v (value A W B k v f) → KernelInRadical f }
     ensures independent { (q : Gf) (A : BoundQuiver) (W : Words q A.quiver) (B : IsWordBasis A W) (k : ℕ)
         (v : ℕ → ℕ) (X : Rep q A.quiver) (f : Hom (projectives W k v) X)
         → IsEpi f → KernelInRadical f
-        → IsIndependentModuloRadical X k v (generator_value A W B k v f) }
+        → IsIndependentModuloRadical X k v (value A W B k v f) }
 {}
 
 /// The same for what covers the kernel of d, where i is an inclusion of the kernel and the rows x of it are the values of the generators:
@@ -57,12 +58,12 @@ pub fn kernel_cover_criterion()
     ensures minimal { (q : Gf) (A : BoundQuiver) (W : Words q A.quiver) (B : IsWordBasis A W) (k : ℕ)
         (v : ℕ → ℕ) (N X Y : Rep q A.quiver) (i : Hom N X) → IsMono i → (d : Hom X Y) → IsExact i d
         → (f : Hom (projectives W k v) X) → IsExact f d → (x : (j : ℕ) → Row q (N.dim (v j)))
-        → ((j : ℕ) → j < k → x j · i.at (v j) ≡ generator_value A W B k v f j)
+        → ((j : ℕ) → j < k → x j · i.at (v j) ≡ value A W B k v f j)
         → IsIndependentModuloRadical N k v x → KernelInRadical f }
     ensures independent { (q : Gf) (A : BoundQuiver) (W : Words q A.quiver) (B : IsWordBasis A W) (k : ℕ)
         (v : ℕ → ℕ) (N X Y : Rep q A.quiver) (i : Hom N X) → IsMono i → (d : Hom X Y) → IsExact i d
         → (f : Hom (projectives W k v) X) → IsExact f d → (x : (j : ℕ) → Row q (N.dim (v j)))
-        → ((j : ℕ) → j < k → x j · i.at (v j) ≡ generator_value A W B k v f j)
+        → ((j : ℕ) → j < k → x j · i.at (v j) ≡ value A W B k v f j)
         → KernelInRadical f → IsIndependentModuloRadical N k v x }
 {}
 
