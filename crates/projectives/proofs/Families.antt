@@ -20,6 +20,7 @@ use Rattle.projectives.specs.Words.{Words, IsWordBasis, projective}
 use Rattle.projectives.specs.Projective.{generator}
 use Rattle.projectives.specs.Yoneda.{yoneda}
 use Rattle.projectives.specs.Families.{choose, family_in, projectives, generator_of}
+use Rattle.projectives.specs.HomRows.{hom_of_rows}
 use Rattle.projectives.proofs.Yoneda.{generator-yoneda, equal_on_generator}
 
 module _ {q : Gf} {Q : Quiver} where
@@ -34,11 +35,11 @@ module _ {q : Gf} {Q : Quiver} where
   choose-is {Z} X f i k (inl e) h n = path_j (λ j d. subst (λ j. Hom (X j) Z) d (f k) ≡ f j) (subst_refl (λ j. Hom (X j) Z) (f k)) (sym e)
   choose-is X f i k (inr d) h n = n d
 
-  choose-same : {Z : Rep q Q} (X : ℕ → Rep q Q) (k : ℕ) (c : (k ≡ k) ⊎ (k ≢ k)) (g h : Hom (X k) Z) → choose X k k c g h ≡ g
+  pub choose-same : {Z : Rep q Q} (X : ℕ → Rep q Q) (k : ℕ) (c : (k ≡ k) ⊎ (k ≢ k)) (g h : Hom (X k) Z) → choose X k k c g h ≡ g
   choose-same {Z} X k (inl e) g h = ap (λ d. subst (λ j. Hom (X j) Z) d g) (ℕ_set k k (sym e) refl) ∙ subst_refl (λ j. Hom (X j) Z) g
   choose-same X k (inr d) g h = absurd (d refl)
 
-  choose-other : {Z : Rep q Q} (X : ℕ → Rep q Q) (i k : ℕ) (c : (i ≡ k) ⊎ (i ≢ k)) (g : Hom (X k) Z) (h : Hom (X i) Z) → i ≢ k → choose X i k c g h ≡ h
+  pub choose-other : {Z : Rep q Q} (X : ℕ → Rep q Q) (i k : ℕ) (c : (i ≡ k) ⊎ (i ≢ k)) (g : Hom (X k) Z) (h : Hom (X i) Z) → i ≢ k → choose X i k c g h ≡ h
   choose-other X i k (inl e) g h n = absurd (n e)
   choose-other X i k (inr d) g h n = refl
 
@@ -53,7 +54,7 @@ module _ {q : Gf} {Q : Quiver} where
       compose_assoc (family_in k X i) (into_first (sum_family k X) (X k)) (from_sum (from_family k X f) (f k))
       ∙ ap (λ z. family_in k X i ≫ z) (first_from_sum (from_family k X f) (f k)) ∙ in-from_family k X f i (omega arith))
 
-  from_family-same : {Z : Rep q Q} (k : ℕ) (X : ℕ → Rep q Q) (f g : (i : ℕ) → Hom (X i) Z) → ((i : ℕ) → i < k → f i ≡ g i) → from_family k X f ≡ from_family k X g
+  pub from_family-same : {Z : Rep q Q} (k : ℕ) (X : ℕ → Rep q Q) (f g : (i : ℕ) → Hom (X i) Z) → ((i : ℕ) → i < k → f i ≡ g i) → from_family k X f ≡ from_family k X g
   unfolding from_family
   from_family-same zero X f g h = refl
   from_family-same (suc k) X f g h = ap₂ from_sum (from_family-same k X f g (λ i l. h i (omega arith))) (h k (omega arith))
@@ -80,16 +81,16 @@ module _ {q : Gf} (A : BoundQuiver) (W : Words q A.quiver) (B : IsWordBasis A W)
   projectives_mod = IsMod-family A k (λ j. projective W (v j)) (λ j l. B.modules (v j))
 
   -- The homomorphism that takes the generators to the rows x 0, .., x (k − 1).
-  pub from_rows : (X : Rep q A.quiver) → IsMod A X → ((j : ℕ) → Row q (X.dim (v j))) → Hom (projectives W k v) X
-  from_rows X M x = from_family k (λ j. projective W (v j)) (λ j. yoneda A W B X M (v j) (x j))
+  abbrev pub from_rows : (X : Rep q A.quiver) → IsMod A X → ((j : ℕ) → Row q (X.dim (v j))) → Hom (projectives W k v) X
+  from_rows X M x = hom_of_rows A W B k v X M x
 
-  generator-hom : (X : Rep q A.quiver) (f : Hom (projectives W k v) X) (j : ℕ) → generator_of A W B k v j · f.at (v j) ≡ generator A W B (v j) · (family_in k (λ j. projective W (v j)) j ≫ f).at (v j)
+  pub generator-hom : (X : Rep q A.quiver) (f : Hom (projectives W k v) X) (j : ℕ) → generator_of A W B k v j · f.at (v j) ≡ generator A W B (v j) · (family_in k (λ j. projective W (v j)) j ≫ f).at (v j)
   generator-hom X f j =
       mul_assoc_mat (generator A W B (v j)) ((family_in k (λ j. projective W (v j)) j).at (v j)) (f.at (v j))
       ∙ ap (λ z. generator A W B (v j) · z) (sym (compose-at (family_in k (λ j. projective W (v j)) j) f (v j)))
 
   pub generator-from_rows : (X : Rep q A.quiver) (M : IsMod A X) (x : (j : ℕ) → Row q (X.dim (v j))) (j : ℕ) → j < k → generator_of A W B k v j · (from_rows X M x).at (v j) ≡ x j
-  unfolding from_rows
+  unfolding hom_of_rows
   generator-from_rows X M x j h =
       generator-hom X (from_rows X M x) j
       ∙ ap (λ (z : Hom (projective W (v j)) X). generator A W B (v j) · z.at (v j)) (in-from_family k (λ j. projective W (v j)) (λ j. yoneda A W B X M (v j) (x j)) j h)

@@ -1,4 +1,17 @@
+pub mod Canonical
+pub mod CanonicalCover
+pub mod Components
+pub mod Covers
 pub mod Families
+pub mod Generators
+pub mod HomRows
+pub mod Injective
+pub mod Pairing
 pub mod Projective
+pub mod ReducedSubmodule
+pub mod Resolutions
+pub mod SmallAlgebras
+pub mod Transposed
+pub mod TwoSided
 pub mod Words
 pub mod Yoneda

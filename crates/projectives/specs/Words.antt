@@ -7,7 +7,7 @@ use Rattle.linear_algebra.specs.Field.{Gf}
 use Rattle.linear_algebra.specs.Matrix.{Mat, zeros, ◌·◌}
 use Rattle.linear_algebra.specs.Parts.{unit}
 use Rattle.linear_algebra.specs.Families.{combine}
-use Rattle.representations.specs.Quiver.{Quiver, Path, trivial, BoundQuiver}
+use Rattle.representations.specs.Quiver.{Quiver, Path, trivial, then, BoundQuiver}
 use Rattle.representations.specs.Rep.{Rep, along, IsMod}
 
 -- Words: from v to w there are `count v w` of them, and row i of `act v a` says which combination of words the i-th word from v to the source of the
@@ -30,8 +30,15 @@ along_word W X v w i = word_at W X v w i (cases_lt i (W.count v w))
 abbrev pub projective : {q : Gf} {Q : Quiver} → Words q Q → ℕ → Rep q Q
 projective W v = record { dim = W.count v; mat = W.act v; past = W.past v }
 
+-- The path p is a word.
+pub record IsWord {q : Gf} {Q : Quiver} (W : Words q Q) (v w : ℕ) (p : Path Q v w) : Type 0 where
+  pub place : ℕ
+  pub below : place < W.count v w
+  pub is : W.word v w place below ≡ p
+
 -- The words are a basis of the algebra A: the representations of words are modules; on each module a word and then an arrow is the combination that
--- `act` says; the trivial path is a word, and it generates: it goes along each word to that word.
+-- `act` says; the trivial path is a word, no other word is trivial, and it generates: it goes along each word to that word; a word without its last
+-- arrow is a word; and where a word is followed by an arrow, no trivial word stands in the combination.
 pub record IsWordBasis {q : Gf} (A : BoundQuiver) (W : Words q A.quiver) : Type 0 where
   pub modules : (v : ℕ) → IsMod A (projective W v)
   pub acts : (X : Rep q A.quiver) → IsMod A X → (v a i : ℕ) → i < W.count v (A.quiver.source a)
@@ -40,3 +47,7 @@ pub record IsWordBasis {q : Gf} (A : BoundQuiver) (W : Words q A.quiver) : Type 
   pub place_below : (v : ℕ) → v < A.quiver.vertices → place v < W.count v v
   pub place_trivial : (v : ℕ) (h : place v < W.count v v) → W.word v v (place v) h ≡ trivial
   pub generates : (v w i : ℕ) → i < W.count v w → unit q (W.count v v) (place v) · along_word W (projective W v) v w i ≡ unit q (W.count v w) i
+  pub place_only : (v i : ℕ) (h : i < W.count v v) → W.word v v i h ≡ trivial → i ≡ place v
+  pub without_last : (v a i : ℕ) (h : i < W.count v (A.quiver.target a)) (p : Path A.quiver v (A.quiver.source a)) → W.word v (A.quiver.target a) i h ≡ then a p
+      → IsWord W v (A.quiver.source a) p
+  pub not_trivial : (v a i : ℕ) → A.quiver.target a ≡ v → (W.act v a).at i (place v) ≡ zero
