@@ -1,5 +1,5 @@
 use Rattle.fp_linear.specs.Slices.{AreElements, IsWritten, added}
-use Rattle.fp_linear.proofs.add.add_products_binary.Given as goal
+use Rattle.fp_linear.proofs.add.add_sums.Given as goal
 
 abbrev pub invariant-loop-j : goal.invariant-loop-j
 invariant-loop-j l = record {
