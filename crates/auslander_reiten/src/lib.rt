@@ -1,0 +1,2 @@
+//! Translates and almost split sequences. There is no code here but law functions: the body is empty, and the contract is the law.
+#![tactic(auto)]

@@ -1,0 +1,3 @@
+pub mod Isomorphic
+pub mod Local
+pub mod Splitting
