@@ -17,7 +17,7 @@ arrow_times h a x p = product_between h.bound (arrow_path h.quiver a) x (trivial
 abbrev pub times_arrow : Header → (Path → ℕ) → ℕ → Path → ℕ
 times_arrow h x a p = product_between h.bound (trivial_path p.start) x (arrow_path h.quiver a) p
 
--- the element with this number, zero where there is none
+-- The element with this number; numbers count from 1, and `NamesEarlier` asks for one of them. Zero past the last.
 abbrev pub element_at : List (Path → ℕ) → ℕ → Path → ℕ
 element_at elements number = slice_index_or elements (number - 1) (λ p. 0)
 
