@@ -1,1 +1,4 @@
+pub mod Algebra
+pub mod Certificate
+pub mod Ideal
 pub mod Local
