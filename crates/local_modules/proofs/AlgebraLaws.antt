@@ -1,5 +1,5 @@
 -- The laws of an algebra, and its regular representation: the matrix of multiplication by an element from the right.
-use Rattle.std.proofs.Common.{ℕ, zero, suc, ◌+◌, ◌-◌, ◌≤◌, ◌≡◌, ◌≢◌, ◌⊎◌, refl, inl, inr, sym, ap, ap₂, ◌∙◌, arith, subst}
+use Rattle.std.proofs.Common.{ℕ, zero, suc, ◌+◌, ◌-◌, ◌*◌, ◌<◌, mul-suc, ◌≤◌, ◌≡◌, ◌≢◌, ◌⊎◌, refl, inl, inr, sym, ap, ap₂, ◌∙◌, arith, subst}
 use Rattle.linear_algebra.specs.Field.{Gf, order, neg}
 use Rattle.linear_algebra.specs.Matrix.{Mat, Row, zeros, one, ◌⊞◌, ◌⊟◌, ◌⊙◌, negative, ◌·◌}
 use Rattle.linear_algebra.specs.Rank.{IsInSpan, HasInverse}
@@ -13,6 +13,9 @@ use Rattle.linear_algebra.proofs.Inverses.{one_minus_nilpotent, mat_power-add, m
 use Rattle.linear_algebra.proofs.Fitting.{fitting, nilpotent_vanishes}
 use Rattle.linear_algebra.proofs.Solving.{in_span_or_not, equal_or_not}
 use Rattle.local_modules.specs.Algebra.{Algebra, Element, power_in, product_in, IsUnitIn, IsNilpotentIn, IsMixed}
+
+mul-suc-left : (j k : ℕ) → j * suc k ≡ j + j * k
+mul-suc-left j k = omega (arith, mul-suc j k)
 
 module _ {q : Gf} (A : Algebra q) where
   pub by_right_linear : (y : Element A) → IsLinear (λ (x : Element A). A.product x y)
@@ -63,6 +66,28 @@ module _ {q : Gf} (A : Algebra q) where
 
   pub power_in-last : (x : Element A) (k : ℕ) → power_in A x (suc k) ≡ A.product (power_in A x k) x
   power_in-last x k = let same : suc k ≡ k + 1 = omega arith in ap (power_in A x) same ∙ power_in-add x k 1 ∙ ap (A.product (power_in A x k)) (power_in-one x)
+
+  pub power_in-power : (x : Element A) (j k : ℕ) → power_in A (power_in A x j) k ≡ power_in A x (j * k)
+  power_in-power x j zero = let same : j * 0 ≡ 0 = omega arith in power_in-zero (power_in A x j) ∙ sym (ap (power_in A x) same ∙ power_in-zero x)
+  power_in-power x j (suc k) =
+      power_in-suc (power_in A x j) k ∙ ap (A.product (power_in A x j)) (power_in-power x j k) ∙ sym (power_in-add x j (j * k)) ∙ ap (power_in A x) (sym (mul-suc-left j k))
+
+  pub product_in-constant : (x : Element A) (k : ℕ) → product_in A (λ i. x) k ≡ power_in A x k
+  unfolding product_in
+  product_in-constant x zero = sym (power_in-zero x)
+  product_in-constant x (suc k) = ap (λ z. A.product z x) (product_in-constant x k) ∙ sym (power_in-last x k)
+
+  pub product_in-same : (h g : ℕ → Element A) (k : ℕ) → ((i : ℕ) → i < k → h i ≡ g i) → product_in A h k ≡ product_in A g k
+  unfolding product_in
+  product_in-same h g zero e = refl
+  product_in-same h g (suc k) e = ap₂ A.product (product_in-same h g k (λ i l. e i (omega arith))) (e k (omega arith))
+
+  pub product_in-add : (h : ℕ → Element A) (j k : ℕ) → product_in A h (j + k) ≡ A.product (product_in A h j) (product_in A (λ i. h (j + i)) k)
+  unfolding product_in
+  product_in-add h j zero = let same : j + 0 ≡ j = omega arith in ap (product_in A h) same ∙ sym (A.product_unit (product_in A h j))
+  product_in-add h j (suc k) =
+      let same : j + suc k ≡ suc (j + k) = omega arith in
+      ap (product_in A h) same ∙ ap (λ z. A.product z (h (j + k))) (product_in-add h j k) ∙ A.associates (product_in A h j) (product_in A (λ i. h (j + i)) k) (h (j + k))
 
   pub power_past : (x : Element A) (j k : ℕ) → j ≤ k → power_in A x j ≡ zeros q 1 A.size → power_in A x k ≡ zeros q 1 A.size
   power_past x j k h e =
@@ -176,7 +201,7 @@ module _ {q : Gf} (A : Algebra q) where
       go : FittingParts (right_matrix x) e A.unit → (z : Element A) × (power_in A x e ≡ A.product z (A.product (power_in A x e) (power_in A x e)))
       go p = (
         p.source,
-        sym (power_is x e) ∙ ap (λ z. z · mat_power (right_matrix x) e) (sym p.sum) ∙ cut p
+        sym (power_is x e) ∙ ap (λ z. z · mat_power (right_matrix x) e) (sym p.sum) ∙ cut p,
       )
         where
           cut : (p : FittingParts (right_matrix x) e A.unit) → (p.nilpotent_part ⊞ p.source · mat_power (right_matrix x) e) · mat_power (right_matrix x) e ≡ A.product p.source (A.product (power_in A x e) (power_in A x e))
