@@ -14,7 +14,7 @@ use Rattle.linear_algebra.proofs.Fitting.{fitting, nilpotent_vanishes}
 use Rattle.linear_algebra.proofs.Solving.{in_span_or_not, equal_or_not}
 use Rattle.local_modules.specs.Algebra.{Algebra, Element, power_in, product_in, IsUnitIn, IsNilpotentIn, IsMixed}
 
-mul-suc-left : (j k : ℕ) → j * suc k ≡ j + j * k
+pub mul-suc-left : (j k : ℕ) → j * suc k ≡ j + j * k
 mul-suc-left j k = omega (arith, mul-suc j k)
 
 module _ {q : Gf} (A : Algebra q) where
@@ -88,6 +88,25 @@ module _ {q : Gf} (A : Algebra q) where
   product_in-add h j (suc k) =
       let same : j + suc k ≡ suc (j + k) = omega arith in
       ap (product_in A h) same ∙ ap (λ z. A.product z (h (j + k))) (product_in-add h j k) ∙ A.associates (product_in A h j) (product_in A (λ i. h (j + i)) k) (h (j + k))
+
+  pub product_in-none : (h : ℕ → Element A) → product_in A h 0 ≡ A.unit
+  unfolding product_in
+  product_in-none h = refl
+
+  pub product_in-last : (h : ℕ → Element A) (k : ℕ) → product_in A h (suc k) ≡ A.product (product_in A h k) (h k)
+  unfolding product_in
+  product_in-last h k = refl
+
+  pub product_in-one : (h : ℕ → Element A) → product_in A h 1 ≡ h 0
+  product_in-one h = product_in-last h 0 ∙ ap (λ z. A.product z (h 0)) (product_in-none h) ∙ A.unit_product (h 0)
+
+  -- a product in s blocks of d factors
+  pub product_in-blocks : (h : ℕ → Element A) (d s : ℕ) → product_in A h (d * s) ≡ product_in A (λ j. product_in A (λ i. h (d * j + i)) d) s
+  product_in-blocks h d zero = let same : d * 0 ≡ 0 = omega arith in ap (product_in A h) same ∙ product_in-none h ∙ sym (product_in-none (λ j. product_in A (λ i. h (d * j + i)) d))
+  product_in-blocks h d (suc s) =
+      let same : d * suc s ≡ d * s + d = omega (arith, mul-suc d s) in
+      ap (product_in A h) same ∙ product_in-add h (d * s) d ∙ ap (λ z. A.product z (product_in A (λ i. h (d * s + i)) d)) (product_in-blocks h d s)
+      ∙ sym (product_in-last (λ j. product_in A (λ i. h (d * j + i)) d) s)
 
   pub power_past : (x : Element A) (j k : ℕ) → j ≤ k → power_in A x j ≡ zeros q 1 A.size → power_in A x k ≡ zeros q 1 A.size
   power_past x j k h e =

@@ -1,7 +1,7 @@
 -- Endomorphisms and their coordinates: isomorphisms and nilpotent endomorphisms are the invertible and the nilpotent elements of the algebra.
-use Rattle.std.proofs.Common.{ℕ, zero, suc, ◌≡◌, ◌≢◌, ◌⊎◌, inl, inr, sym, ap, ap₂, ◌∙◌, subst}
+use Rattle.std.proofs.Common.{ℕ, zero, suc, ◌≡◌, ◌≢◌, ◌⊎◌, inl, inr, sym, ap, refl, arith, ◌∙◌, subst}
 use Rattle.linear_algebra.specs.Field.{Gf}
-use Rattle.linear_algebra.specs.Matrix.{Mat, Row, zeros, one}
+use Rattle.linear_algebra.specs.Matrix.{zeros, one, delta-same}
 use Rattle.representations.specs.Quiver.{Quiver}
 use Rattle.representations.specs.Rep.{Rep}
 use Rattle.representations.specs.Hom.{Hom, ◌≫◌, identity, zero_hom, power, multiple}
@@ -9,13 +9,24 @@ use Rattle.representations.specs.Module.{IsIso, IsNilpotent}
 use Rattle.representations.specs.HomSpace.{HomBasis}
 use Rattle.representations.proofs.Homs.{power-zero, power-suc, zero_multiple, same-at, identity-at, zero_hom-at}
 use Rattle.representations.proofs.HomSpace.{coordinates, hom-coordinates, coordinates-hom, hom_scale}
-use Rattle.linear_algebra.proofs.MatrixLaws.{zero_scale}
+use Rattle.linear_algebra.proofs.MatrixLaws.{zero_scale, one-at}
 use Rattle.local_modules.specs.Algebra.{Algebra, Element, power_in, IsUnitIn, IsNilpotentIn, IsMixed}
 use Rattle.local_modules.specs.Endomorphisms.{endomorphism_algebra}
 use Rattle.local_modules.specs.Certificate.{LocalCertificate}
 use Rattle.local_modules.specs.Local.{IsLocal}
 use Rattle.local_modules.proofs.AlgebraLaws.{power_in-zero, power_in-suc}
 use Rattle.local_modules.proofs.ResidueConditions.{certificate_local}
+
+one_not_zero : (n : ℕ) → n ≡ 1 → n ≡ 0 → ⊥
+one_not_zero n e z = omega arith
+
+one_nonzero : (q : Gf) (d : ℕ) → d ≢ zero → one q d ≡ zeros q d d → ⊥
+unfolding zeros
+one_nonzero q zero n e = n refl
+one_nonzero q (suc d) n e =
+    let unit : (one q (suc d)).at 0 0 ≡ 1 = one-at q (suc d) 0 0 (omega arith) ∙ delta-same 0 in
+    let null : (one q (suc d)).at 0 0 ≡ 0 = ap (λ m. m.at 0 0) e in
+    one_not_zero ((one q (suc d)).at 0 0) unit null
 
 module _ {q : Gf} {Q : Quiver} {X : Rep q Q} (B : HomBasis X X) where
   abbrev A : Algebra q
@@ -78,7 +89,4 @@ module _ {q : Gf} {Q : Quiver} {X : Rep q Q} (B : HomBasis X X) where
 
   -- The endomorphism algebra of a module that is not zero is not zero.
   pub unit_nonzero : (v : ℕ) → X.dim v ≢ zero → A.unit ≢ zeros q 1 B.size
-  unit_nonzero v n e = one_nonzero (X.dim v) n (sym (identity-at X v) ∙ same-at (sym hom-unit ∙ ap B.hom e ∙ hom-zeros) v ∙ zero_hom-at X X v)
-    where
-      one_nonzero : (d : ℕ) → d ≢ zero → one q d ≡ zeros q d d → ⊥
-      one_nonzero d n e = ?
+  unit_nonzero v n e = one_nonzero q (X.dim v) n (sym (identity-at X v) ∙ same-at (sym hom-unit ∙ ap B.hom e ∙ hom-zeros) v ∙ zero_hom-at X X v)
