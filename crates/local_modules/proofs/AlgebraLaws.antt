@@ -31,19 +31,15 @@ module _ {q : Gf} (A : Algebra q) where
   product_zeros x = linear_zeros (λ (y : Element A). A.product x y) (by_left_linear x)
 
   -- Differences.
+  pub linear_difference : (f : Element A → Element A) → IsLinear f → (y z : Element A) → f (y ⊟ z) ≡ f y ⊟ f z
+  linear_difference f h y z =
+      ap f (difference y z ∙ ap (λ u. y ⊞ u) (negative_scale z)) ∙ h.sum y (neg q 1 ⊙ z) ∙ ap (λ u. f y ⊞ u) (h.multiple (neg q 1) z ∙ sym (negative_scale (f z))) ∙ sym (difference (f y) (f z))
+
   pub product_difference : (x y z : Element A) → A.product x (y ⊟ z) ≡ A.product x y ⊟ A.product x z
   product_difference x y z = linear_difference (λ (y : Element A). A.product x y) (by_left_linear x) y z
-    where
-      linear_difference : (f : Element A → Element A) → IsLinear f → (y z : Element A) → f (y ⊟ z) ≡ f y ⊟ f z
-      linear_difference f h y z =
-          ap f (difference y z ∙ ap (λ u. y ⊞ u) (negative_scale z)) ∙ h.sum y (neg q 1 ⊙ z) ∙ ap (λ u. f y ⊞ u) (h.multiple (neg q 1) z ∙ sym (negative_scale (f z))) ∙ sym (difference (f y) (f z))
 
   pub difference_product : (x y z : Element A) → A.product (x ⊟ y) z ≡ A.product x z ⊟ A.product y z
-  difference_product x y z = linear_difference (λ (y : Element A). A.product y z) (by_right_linear z) x y
-    where
-      linear_difference : (f : Element A → Element A) → IsLinear f → (y z : Element A) → f (y ⊟ z) ≡ f y ⊟ f z
-      linear_difference f h y z =
-          ap f (difference y z ∙ ap (λ u. y ⊞ u) (negative_scale z)) ∙ h.sum y (neg q 1 ⊙ z) ∙ ap (λ u. f y ⊞ u) (h.multiple (neg q 1) z ∙ sym (negative_scale (f z))) ∙ sym (difference (f y) (f z))
+  difference_product x y z = linear_difference (λ (x : Element A). A.product x z) (by_right_linear z) x y
 
   -- Powers.
   pub power_in-zero : (x : Element A) → power_in A x 0 ≡ A.unit
