@@ -1,5 +1,5 @@
 pub mod Algebra
 pub mod Certificate
-pub mod Endomorphisms
 pub mod Ideal
 pub mod Local
+pub mod MatrixAlgebra
