@@ -1,5 +1,5 @@
 //! The same tasks in plain Rust, with the usual bounds checks: Gauss and Jordan on rows of bytes, with tables for the fields that are not prime.
-//! `plain TASK FIELD SIZE`, as linear_bench.
+//! `plain TASK FIELD SIZE [TIMES]`, as linear_bench.
 
 struct Field {
     q: usize,
@@ -125,20 +125,29 @@ fn random(f: &Field, n: usize, seed: u32) -> Vec<u8> {
 fn main() {
     let words: Vec<String> = std::env::args().collect();
     let (q, n): (usize, usize) = (words[2].parse().unwrap(), words[3].parse().unwrap());
+    let times: u32 = words.get(4).map_or(1, |word| word.parse().unwrap());
     let f = Field::new(q);
-    let mut a = random(&f, n, 1);
-    let answer = match words[1].as_str() {
-        "rank" => echelon(&f, &mut a, n, n).len(),
+    let mut answer = 0;
+    for _ in 0..times {
+        answer = run_once(&f, &words[1], n);
+    }
+    println!("{answer}");
+}
+
+fn run_once(f: &Field, task: &str, n: usize) -> usize {
+    let mut a = random(f, n, 1);
+    match task {
+        "rank" => echelon(f, &mut a, n, n).len(),
         "kernel" => {
             let mut wide = vec![0; 2 * n * n];
             for i in 0..n {
                 wide[2 * n * i..2 * n * i + n].copy_from_slice(&a[n * i..n * i + n]);
                 wide[2 * n * i + n + i] = 1;
             }
-            echelon(&f, &mut wide, n, 2 * n).iter().filter(|p| **p >= n).count()
+            echelon(f, &mut wide, n, 2 * n).iter().filter(|p| **p >= n).count()
         }
         "product" => {
-            let b = random(&f, n, 2);
+            let b = random(f, n, 2);
             let mut c = vec![0; n * n];
             for i in 0..n {
                 for k in 0..n {
@@ -151,7 +160,7 @@ fn main() {
             n
         }
         _ => {
-            let b = random(&f, n, 2);
+            let b = random(f, n, 2);
             let mut wide = vec![0; 2 * n * n];
             for i in 0..n {
                 for t in 0..n {
@@ -159,9 +168,8 @@ fn main() {
                     wide[t * 2 * n + n + i] = b[i * n + t];
                 }
             }
-            let pivots = echelon(&f, &mut wide, n, 2 * n);
+            let pivots = echelon(f, &mut wide, n, 2 * n);
             if pivots.iter().any(|p| *p >= n) { 0 } else { n }
         }
-    };
-    println!("{answer}");
+    }
 }

@@ -9,9 +9,15 @@ use Rattle.quiver_paths.specs.Path.{path_length}
 use Rattle.quiver_paths.specs.PathOrder.{IsSmaller, IsAscending}
 use Rattle.quiver_paths.proofs.PathOrderLemmas.{IsSmaller-irreflexive}
 use Rattle.quiver_paths.proofs.ListLemmas.{Contains-head, Contains-behind, Contains-cons_cases, Contains-nil, AllPairs-head, AllPairs-tail}
+use Rattle.alg_table.specs.declared.Header.{Header}
 use Rattle.alg_table.specs.Elements.{combination}
 use Rattle.alg_table.proofs.Between.{cases_path}
 use Rattle.alg_table.proofs.ElementLemmas.{path_element-self, path_element-other, combination-below}
+
+-- an element that is a combination of some words
+pub record IsCombination (h : Header) (words : List Path) (x : Path → ℕ) : Type 0 where
+  pub small : (r : Path) → x r < order h.field
+  pub outside : (r : Path) → (Contains words r → ⊥) → x r ≡ 0
 
 -- a combination is zero at a path that is none of its words
 pub combination-outside : (q : Gf) (t : ℕ) (c : List ℕ) (words : List Path) (p : Path) → (Contains words p → ⊥) → combination q t c words p ≡ 0

@@ -12,3 +12,17 @@ pub mod FreeColumns
 pub mod Collecting
 pub mod FreePaths
 pub mod AllRows
+pub mod SumsOver
+pub mod Acting
+pub mod Occurrences
+pub mod IdealProducts
+pub mod Reducing
+pub mod Independent
+pub mod IdealActs
+pub mod IdealSteps
+pub mod Congruence
+pub mod NormalFactors
+pub mod NormalForms
+pub mod ClausesSuffice
+pub mod ClausesNecessary
+pub mod ReductionExists

@@ -89,7 +89,7 @@ path_support : (h : Header) (p r : Path) → IsShortPath h p → path_element h.
 path_support h p r s n = subst (IsShortPath h) (path_element_support h.bound p r n).0 s
 
 -- (e − b) − (e − a) = a − b
-sub-sub_sub : (q : Gf) (e a b : ℕ) → sub q (sub q e b) (sub q e a) ≡ sub q a b
+pub sub-sub_sub : (q : Gf) (e a b : ℕ) → sub q (sub q e b) (sub q e a) ≡ sub q a b
 sub-sub_sub q e a b =
     sub_def q (sub q e b) (sub q e a)
     ∙ (ap₂ (λ x y. add q x (neg q y)) (sub_def q e b) (sub_def q e a)

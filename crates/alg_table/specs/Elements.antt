@@ -13,6 +13,11 @@ pub record IsElement (q : Gf) (quiver : Quiver) (t : ℕ) (x : Path → ℕ) : T
   pub small : (p : Path) → x p < order q
   pub support : (p : Path) → x p ≢ 0 → IsPath quiver p × (path_length p < t)
 
+-- the sum of a function's values at the members of a list
+unfoldable pub sum_over : {X : Type 0} → Gf → List X → (X → ℕ) → ℕ
+sum_over q [] f = 0
+sum_over q (x ∷ xs) f = add q (f x) (sum_over q xs f)
+
 -- the two are one path
 unfoldable pub same_path : Path → Path → Bool
 same_path p r = (p.start == r.start) && ((p.end == r.end) && pointwise nat_eq p.arrows r.arrows)

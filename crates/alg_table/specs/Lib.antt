@@ -5,3 +5,7 @@ pub mod Allowed
 pub mod Rows
 pub mod Closure
 pub mod TableView
+pub mod Rules
+pub mod Derivations
+pub mod Reduction
+pub mod BasisClauses

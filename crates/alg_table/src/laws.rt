@@ -1,5 +1,5 @@
 //! What holds of the ideal, of congruence and of normal words. The functions do nothing: their contracts are laws.
-ghost use Rattle.std.specs.Prelude.{◌≡◌, ◌≢◌, ◌<◌, ◌≤◌, ℕ, List};
+ghost use Rattle.std.specs.Prelude.{◌≡◌, ◌≢◌, ◌<◌, ◌≤◌, ◌⊎◌, ℕ, List, Contains};
 ghost use Rattle.linear_algebra.specs.Field.{add, mul};
 ghost use Rattle.quiver_paths.specs.declared.Path.{Path};
 ghost use Rattle.quiver_paths.specs.Path.{Meets, concat, path_length};
@@ -7,7 +7,12 @@ ghost use Rattle.alg_table.specs.declared.Header.{Header};
 ghost use Rattle.alg_table.specs.Elements.{product_between};
 ghost use Rattle.alg_table.specs.Ideals.{IsInIdeal, Congruent};
 ghost use Rattle.alg_table.specs.Allowed.{IsAllowed};
-ghost use Rattle.alg_table.specs.Words.{IsShortPath, IsNormal, AreNormalWords, IsBasis};
+ghost use Rattle.alg_table.specs.Words.{IsShortPath, IsTip, IsNormal, AreNormalWords, IsBasis};
+ghost use Rattle.alg_table.specs.declared.rules.Rule.{Rule};
+ghost use Rattle.alg_table.specs.declared.rules.Step.{Step};
+ghost use Rattle.alg_table.specs.Rules.{rule_element, AreReducedRules};
+ghost use Rattle.alg_table.specs.Derivations.{AreSteps, step_elements, element_at};
+ghost use Rattle.alg_table.specs.BasisClauses.{StepsHold, IsBasisClaim, MeetsClauses};
 
 /// The coefficient of u·x·v at u·m·v is that of x at m; it is zero at paths of the bound's length or more, and at paths that are no such product.
 pub fn product_at()
@@ -32,4 +37,33 @@ pub fn normal_words_are_a_basis()
 /// A header has at most one list of normal words.
 pub fn normal_words_are_unique()
     ensures { (h : Header) (a b : List Path) → AreNormalWords h a → AreNormalWords h b → a ≡ b }
+{}
+
+/// Each short path is normal or the greatest path of a member of the ideal.
+pub fn short_paths_are_normal_or_tips()
+    ensures { (h : Header) → IsAllowed h → (p : Path) → IsShortPath h p → IsNormal h p ⊎ IsTip h p }
+{}
+
+/// The element of each step of a derivation is in the ideal.
+pub fn derivations_stay_in_the_ideal()
+    ensures { (h : Header) → IsAllowed h → (steps : List Step) → AreSteps h steps → (n : ℕ) → IsInIdeal h (element_at (step_elements h steps) n) }
+{}
+
+/// Words, steps and rules that meet the five conditions: the words are the normal words, which are a basis of the quotient, and the rules are
+/// the reduced rules. (Green.)
+pub fn conditions_suffice()
+    ensures normal { (h : Header) (words : List Path) (steps : List Step) (rules : List Rule) → IsAllowed h → IsBasisClaim h words steps rules
+        → MeetsClauses h words steps rules → AreNormalWords h words }
+    ensures basis { (h : Header) (words : List Path) (steps : List Step) (rules : List Rule) → IsAllowed h → IsBasisClaim h words steps rules
+        → MeetsClauses h words steps rules → IsBasis h words }
+    ensures reduced { (h : Header) (words : List Path) (steps : List Step) (rules : List Rule) → IsAllowed h → IsBasisClaim h words steps rules
+        → MeetsClauses h words steps rules → AreReducedRules h rules }
+{}
+
+/// And conversely: the normal words and the reduced rules, each with a step that is what it says, meet the five conditions.
+pub fn conditions_are_met()
+    ensures { (h : Header) → IsAllowed h → (words : List Path) → AreNormalWords h words → (rules : List Rule) → AreReducedRules h rules
+        → (steps : List Step) → StepsHold h steps rules
+        → ((rule : Rule) → Contains rules rule → (p : Path) → rule_element h rule p ≡ element_at (step_elements h steps) rule.step p)
+        → MeetsClauses h words steps rules }
 {}

@@ -12,9 +12,11 @@ mod closing;
 mod closure;
 pub mod laws;
 mod products;
+mod rules;
 mod table;
 
 pub use closing::close_rows;
+pub use rules::{BasisFault, Element, Rule, Step};
 pub use table::Table;
 
 /// A coefficient, from 1 to the field's size less 1, and a path.

@@ -9,7 +9,7 @@ use Rattle.linear_algebra.specs.Rows.{list_of}
 use Rattle.linear_algebra.proofs.Rows.{get_or-list_of, length-list_of}
 use Rattle.fp_linear.specs.Slices.{IsRowOfProducts}
 use Rattle.fp_linear.specs.Tables.{table_of}
-use Rattle.fp_linear.specs.declared.tables.TheConstants.{PRODUCTS_4, PRODUCTS_8, PRODUCTS_9, PRODUCTS_16, PRODUCTS_25, PRODUCTS_27, SUMS_9, SUMS_25, SUMS_27}
+use Rattle.fp_linear.specs.declared.tables.TheConstants.{PRODUCTS_4, PRODUCTS_8, PRODUCTS_9, PRODUCTS_16, PRODUCTS_25, PRODUCTS_27}
 
 pub length-table_of : (n : ℕ) (f : ℕ → ℕ → ℕ) → length (table_of n f) ≡ n * n
 unfolding table_of
@@ -42,18 +42,6 @@ products_25 = refl
 pub products_27 : PRODUCTS_27 ≡ table_of 27 (mul f27)
 unfolding table_of list_of mul polynomial coefficients number plus times multiple front top remainder
 products_27 = refl
-
-pub sums_9 : SUMS_9 ≡ table_of 9 (add f9)
-unfolding table_of list_of add polynomial coefficients number plus
-sums_9 = refl
-
-pub sums_25 : SUMS_25 ≡ table_of 25 (add f25)
-unfolding table_of list_of add polynomial coefficients number plus
-sums_25 = refl
-
-pub sums_27 : SUMS_27 ≡ table_of 27 (add f27)
-unfolding table_of list_of add polynomial coefficients number plus
-sums_27 = refl
 
 -- sums of the fields of 2, 4, 8 and 16 elements
 unfoldable xor_tests : Gf → Bool

@@ -5,7 +5,9 @@ pub mod Fields
 pub mod InvertOf
 pub mod KernelOf
 pub mod Matrices
+pub mod MultipleTables
 pub mod Products
+pub mod RankOf
 pub mod Result
 pub mod RowLoops
 pub mod RowClearing

@@ -1,6 +1,7 @@
 -- Slices that hold a matrix row by row, and what a write to a part of a slice leaves.
 use Rattle.std.specs.Prelude.{ℕ, ◌<◌, ◌≤◌, ◌≡◌, ◌≢◌, ◌+◌, ◌*◌, List, length, slice_index}
 use Rattle.linear_algebra.specs.Field.{Gf, order, add, mul}
+use Rattle.fp_linear.specs.Tables.{letter}
 
 -- the entry in row i and column j of a slice that holds rows of n entries one after another
 unfoldable pub cell : ℕ → List ℕ → ℕ → ℕ → ℕ
@@ -28,6 +29,11 @@ added q factor source target s j = add q (slice_index s (target + j)) (mul q fac
 pub record IsRowOfProducts (q : Gf) (factor : ℕ) (s : List ℕ) : Type 0 where
   pub count : length s ≡ order q
   pub products : (b : ℕ) → b < order q → slice_index s b ≡ mul q factor b
+
+-- the letters of the sums of each element and the product of a number with each, row by row
+pub record HasSums (q : Gf) (factor : ℕ) (s : List ℕ) : Type 0 where
+  pub count : length s ≡ order q * order q
+  pub sums : (a b : ℕ) → a < order q → b < order q → slice_index s (a * order q + b) ≡ letter (add q a (mul q factor b))
 
 -- `factor` times what stands at target + j
 abbrev pub scaled : Gf → ℕ → ℕ → List ℕ → ℕ → ℕ

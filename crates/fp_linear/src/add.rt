@@ -1,7 +1,7 @@
 //! Adding a multiple of a part of a slice to another part: the inner loop of elimination and of products.
 ghost use Rattle.std.specs.Prelude.{◌≡◌, ◌≢◌, ◌+◌, ◌*◌, ◌<◌, ◌≤◌, ℕ, length, slice_index};
 ghost use Rattle.linear_algebra.specs.Field.{order, degree, characteristic, add, mul};
-ghost use Rattle.fp_linear.specs.Slices.{AreElements, IsWritten, AreApart, IsRowOfProducts, added};
+ghost use Rattle.fp_linear.specs.Slices.{AreElements, IsWritten, AreApart, IsRowOfProducts, HasSums, added};
 
 use crate::field::Field;
 
@@ -101,16 +101,31 @@ fn add_by_table(
     ensures written { IsWritten entries.old entries.new target count (added field factor source target entries.old) }
     ensures elements { AreElements field entries.new }
 {
-    let products = field.products_by(factor);
     if field.is_binary() {
-        add_products_binary(field, factor, products, source, target, count, entries);
+        add_products(
+            field,
+            factor,
+            field.products_by(factor),
+            source,
+            target,
+            count,
+            entries,
+        );
     } else {
-        add_products(field, factor, products, source, target, count, entries);
+        add_sums(
+            field,
+            factor,
+            field.sums_by(factor),
+            source,
+            target,
+            count,
+            entries,
+        );
     }
 }
 
 // The same where the products of the factor with each element are given, and sums are exclusive ors.
-fn add_products_binary(
+fn add_products(
     field: Field,
     factor: u8,
     products: &[u8],
@@ -133,11 +148,11 @@ fn add_products_binary(
     }
 }
 
-// The same where sums are looked up too.
-fn add_products(
+// The same where the letters of the sums of each element and each product with the factor are given.
+fn add_sums(
     field: Field,
     factor: u8,
-    products: &[u8],
+    sums: &[u8],
     source: usize,
     target: usize,
     count: usize,
@@ -147,16 +162,13 @@ fn add_products(
     requires source_inside { source + count ≤ length entries.old }
     requires target_inside { target + count ≤ length entries.old }
     requires apart { AreApart source target count }
-    requires table { IsRowOfProducts field factor products.now }
-    requires extension { degree field ≢ 1 }
-    requires odd { characteristic field ≢ 2 }
+    requires table { HasSums field factor sums.now }
     ensures written { IsWritten entries.old entries.new target count (added field factor source target entries.old) }
     ensures elements { AreElements field entries.new }
 {
     let size = field.size() as usize;
-    let sums = field.sums();
     for j in 0..count {
-        let product = products[entries[source + j] as usize] as usize;
-        entries[target + j] = sums[entries[target + j] as usize * size + product];
+        let place = entries[target + j] as usize * size + entries[source + j] as usize;
+        entries[target + j] = sums[place] - b'@';
     }
 }

@@ -1,17 +1,15 @@
 //! The fields of the table and their arithmetic.
 ghost use Rattle.std.specs.Prelude.{◌≡◌, ◌≢◌, ◌<◌, ◌↔◌, ◌*◌, MatchOption, IsTrue, ℕ};
 ghost use Rattle.linear_algebra.specs.Field.{Gf, order, degree, characteristic, add, sub, mul, neg, inv};
-ghost use Rattle.fp_linear.specs.Slices.{IsRowOfProducts};
-ghost use Rattle.fp_linear.specs.Tables.{table_of};
+ghost use Rattle.fp_linear.specs.Slices.{IsRowOfProducts, HasSums};
+ghost use Rattle.fp_linear.specs.Tables.{table_of, multiples_of};
 
-use crate::tables::{
-    PRODUCTS_4, PRODUCTS_8, PRODUCTS_9, PRODUCTS_16, PRODUCTS_25, PRODUCTS_27, SUMS_9, SUMS_25,
-    SUMS_27,
-};
+use crate::multiples::{MULTIPLES_9, MULTIPLES_25, MULTIPLES_27};
+use crate::tables::{PRODUCTS_4, PRODUCTS_8, PRODUCTS_9, PRODUCTS_16, PRODUCTS_25, PRODUCTS_27};
 use std::marker::Model;
 
 /// A finite field of 2, 3, 4, 5, 7, 8, 9, 11, 13, 16, 25 or 27 elements. Its elements are the numbers below its size.
-#[derive(Clone, Copy)]
+#[derive(Clone, Copy, PartialEq, Eq, Debug)]
 pub struct Field {
     q: u32,
 }
@@ -90,17 +88,30 @@ impl Field {
         &self.products()[start..end]
     }
 
-    /// The table of sums, laid out as that of products.
-    pub(crate) fn sums(&self) -> &'static [u8]
+    // The letters of all sums of an element and a product of two.
+    fn multiples(&self) -> &'static [u8]
         requires extension { degree self.now ≢ 1 }
         requires odd { characteristic self.now ≢ 2 }
-        ensures { result.now ≡ table_of (order self.now) (add self.now) }
+        ensures { result.now ≡ multiples_of self.now }
     {
         match self.q {
-            9 => &SUMS_9,
-            25 => &SUMS_25,
-            _ => &SUMS_27,
+            9 => MULTIPLES_9,
+            25 => MULTIPLES_25,
+            _ => MULTIPLES_27,
         }
+    }
+
+    /// The letters of the sums of each element and the products of `factor` with each, row by row.
+    pub(crate) fn sums_by(&self, factor: u8) -> &'static [u8]
+        requires extension { degree self.now ≢ 1 }
+        requires odd { characteristic self.now ≢ 2 }
+        requires below { factor < order self.now }
+        ensures { HasSums self.now factor result.now }
+    {
+        let part = self.q as usize * self.q as usize;
+        let start = factor as usize * part;
+        let end = start + part;
+        &self.multiples()[start..end]
     }
 
     /// The sum of two elements.
@@ -114,7 +125,7 @@ impl Field {
         } else if self.is_prime() {
             ((a as u32 + b as u32) % self.q) as u8
         } else {
-            self.sums()[a as usize * self.q as usize + b as usize]
+            self.sums_by(1)[a as usize * self.q as usize + b as usize] - b'@'
         }
     }
 

@@ -92,3 +92,14 @@ fn scratch_of_zeros(rt: HostRuntime) -> Result<(), Fail> {
     assert_eq!(rt; scratch.bytes.len(), 3);
     Ok(())
 }
+
+fn crosses_threads<T: Send + Sync>(_value: &T) {}
+
+#[test]
+fn values_cross_threads(rt: HostRuntime) -> Result<(), Fail> {
+    let field = Field::of(9).expect(&rt, "a field of the table");
+    crosses_threads(&field);
+    crosses_threads(&Matrix::zero(rt.alloc(), field, 2, 3)?);
+    crosses_threads(&Scratch::reserve(rt.alloc(), 1, 1)?);
+    Ok(())
+}

@@ -124,7 +124,7 @@ fn next_vertex(quiver: &Quiver, tokens: &mut Parts<'_>) -> Option<u8>
 }
 
 /// Whether no vertex has the name.
-pub(crate) fn is_new_vertex(vertices: &[Name], name: &Name) -> bool
+pub fn is_new_vertex(vertices: &[Name], name: &Name) -> bool
     ensures { IsTrue result ↔ All (λ (n : Name). n ≢ name.now) vertices.now }
 {
     for vertex in vertices {
@@ -136,7 +136,7 @@ pub(crate) fn is_new_vertex(vertices: &[Name], name: &Name) -> bool
 }
 
 /// Whether no arrow has the name.
-pub(crate) fn is_new_arrow(arrows: &[Arrow], name: &Name) -> bool
+pub fn is_new_arrow(arrows: &[Arrow], name: &Name) -> bool
     ensures { IsTrue result ↔ All (λ (a : Arrow). a.name ≢ name.now) arrows.now }
 {
     for arrow in arrows {

@@ -17,7 +17,7 @@ use std::alloc::{AllocError, Global};
 use text_lines::Parts;
 
 /// Whether a term of a relation may have this path: its length is from 2 to 64.
-fn has_term_length(path: &Path) -> bool
+pub fn has_term_length(path: &Path) -> bool
     ensures { IsTrue result ↔ ((2 ≤ path_length path.now) × (path_length path.now ≤ 64)) }
 {
     path.arrows.len() >= 2 && path.arrows.len() <= 64
@@ -138,8 +138,8 @@ fn are_different(terms: &[Term]) -> bool
     true
 }
 
-/// Whether the terms make a relation.
-fn are_related(terms: &[Term]) -> bool
+/// Whether terms make a relation: at most 64, their paths parallel and all different.
+pub fn are_related(terms: &[Term]) -> bool
     ensures { IsTrue result ↔ AreRelated terms.now }
 {
     terms.len() <= 64 && are_parallel(terms) && are_different(terms)

@@ -1,5 +1,5 @@
-//! Runs one task of linear algebra on a matrix of pseudo-random entries, to be timed: `linear_bench TASK FIELD SIZE`, where TASK is rank, kernel,
-//! solve or product. Prints a number that depends on the answer.
+//! Runs one task of linear algebra on a matrix of pseudo-random entries, to be timed: `linear_bench TASK FIELD SIZE [TIMES]`, where TASK is rank,
+//! kernel, solve or product. Prints a number that depends on the answer.
 #![tactic(auto)]
 
 mod tasks;
@@ -21,7 +21,11 @@ fn main(rt: HostRuntime) -> Result<()> {
         .as_str()
         .parse::<u32>()?;
     ensure!(size <= 4096, "at most 4096 rows");
-    let answer = tasks::run(rt.alloc(), task.as_str(), field, size)?;
+    let times = match words.next() {
+        None => 1,
+        Some(word) => word.as_str().parse::<u32>()?,
+    };
+    let answer = tasks::run(rt.alloc(), task.as_str(), field, size, times)?;
     println!(rt; "{answer}")?;
     Ok(())
 }

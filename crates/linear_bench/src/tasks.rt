@@ -8,11 +8,21 @@ use anyhow::{Context, Result, bail};
 use fp_linear::{Field, Matrix, echelon_in_place};
 use std::alloc::{AllocError, Global};
 
-/// Runs a task on matrices of `size` rows and columns, and answers a number that depends on its result.
-pub fn run(alloc: Global, task: &str, field: u32, size: u32) -> Result<u64>
+/// Runs a task `times` times on matrices of `size` rows and columns, and answers a number that depends on its result.
+pub fn run(alloc: Global, task: &str, field: u32, size: u32, times: u32) -> Result<u64>
     requires { size ≤ 4096 }
 {
     let field = Field::of(field).context("no such field")?;
+    let mut answer = 0;
+    for _ in 0..times {
+        answer = run_once(alloc, task, field, size)?;
+    }
+    Ok(answer)
+}
+
+fn run_once(alloc: Global, task: &str, field: Field, size: u32) -> Result<u64>
+    requires { size ≤ 4096 }
+{
     let mut matrix = random(alloc, field, size, 1)?;
     match task {
         "rank" => {

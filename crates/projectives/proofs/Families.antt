@@ -15,7 +15,7 @@ use Rattle.representations.specs.Module.{IsEpi}
 use Rattle.representations.specs.Sum.{sum_family, into_first, into_second, from_sum}
 use Rattle.representations.proofs.Homs.{compose_assoc, compose-at}
 use Rattle.representations.proofs.Sums.{first_from_sum, second_from_sum, from_sum_unique, IsMod-family}
-use Rattle.representations.proofs.SumFamilies.{from_family}
+use Rattle.representations.proofs.SumFamilies.{from_family, from_family-same}
 use Rattle.projectives.specs.Words.{Words, IsWordBasis, projective}
 use Rattle.projectives.specs.Projective.{generator}
 use Rattle.projectives.specs.Yoneda.{yoneda}
@@ -53,11 +53,6 @@ module _ {q : Gf} {Q : Quiver} where
       ∙ choose-is X f i k (cases_eq i k) (family_in k X i ≫ into_first (sum_family k X) (X k) ≫ from_sum (from_family k X f) (f k)) (λ n.
       compose_assoc (family_in k X i) (into_first (sum_family k X) (X k)) (from_sum (from_family k X f) (f k))
       ∙ ap (λ z. family_in k X i ≫ z) (first_from_sum (from_family k X f) (f k)) ∙ in-from_family k X f i (omega arith))
-
-  pub from_family-same : {Z : Rep q Q} (k : ℕ) (X : ℕ → Rep q Q) (f g : (i : ℕ) → Hom (X i) Z) → ((i : ℕ) → i < k → f i ≡ g i) → from_family k X f ≡ from_family k X g
-  unfolding from_family
-  from_family-same zero X f g h = refl
-  from_family-same (suc k) X f g h = ap₂ from_sum (from_family-same k X f g (λ i l. h i (omega arith))) (h k (omega arith))
 
   -- Each homomorphism out of the sum is given by what it is on the parts.
   pub from_family_unique : {Z : Rep q Q} (k : ℕ) (X : ℕ → Rep q Q) (h : Hom (sum_family k X) Z) → from_family k X (λ i. family_in k X i ≫ h) ≡ h

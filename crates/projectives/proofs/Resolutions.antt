@@ -1,5 +1,5 @@
 -- Resolutions with canonical generators: each is minimal, each module has one of any length, and only one.
-use Rattle.std.proofs.Common.{ℕ, zero, suc, ◌≤◌, ◌≡◌, List, sym, ap, ◌∙◌, arith}
+use Rattle.std.proofs.Common.{ℕ, zero, suc, ◌≤◌, ◌<◌, ◌≡◌, List, length, sym, ap, ◌∙◌, subst, arith}
 use Rattle.linear_algebra.specs.Field.{Gf}
 use Rattle.linear_algebra.specs.Matrix.{◌·◌}
 use Rattle.linear_algebra.specs.Rank.{IsInSpan}
@@ -12,7 +12,7 @@ use Rattle.representations.specs.Quiver.{Quiver, BoundQuiver}
 use Rattle.representations.specs.Rep.{Rep, IsMod}
 use Rattle.representations.specs.Hom.{Hom}
 use Rattle.representations.specs.Module.{IsExact}
-use Rattle.representations.specs.Submodule.{Submodule, inclusion}
+use Rattle.representations.specs.Submodule.{Submodule, sub_rep, inclusion}
 use Rattle.representations.specs.Kernel.{kernel}
 use Rattle.representations.proofs.Kernels.{kernel_exact}
 use Rattle.projectives.specs.Words.{Words, IsWordBasis}
@@ -20,6 +20,7 @@ use Rattle.projectives.specs.ReducedSubmodule.{whole, reduced, reduced_kernel}
 use Rattle.projectives.specs.CanonicalCover.{vertex_in, projectives_at}
 use Rattle.projectives.specs.Resolutions.{target, ProjectiveSequence, IsMinimalResolution, covered, IsCanonicalResolution, Stage, stage}
 use Rattle.projectives.proofs.Families.{projectives_mod}
+use Rattle.projectives.proofs.CanonicalPlaces.{canonical_free}
 use Rattle.projectives.proofs.CanonicalCovers.{CoversSubmodule, cover_of, cover_of_canonical, canonical_covers, canonical_stage, canonical_once}
 
 module _ {q : Gf} {Q : Quiver} {X : Rep q Q} (U : Submodule X) where
@@ -66,6 +67,8 @@ module _ {q : Gf} (A : BoundQuiver) (W : Words q A.quiver) (B : IsWordBasis A W)
     -- A resolution with canonical generators is minimal.
     pub canonical_minimal : (R : ProjectiveSequence W M) (k : ℕ) → IsCanonicalResolution A W B M R k → IsMinimalResolution W M R k
     canonical_minimal R k c = record {
+      declared = λ n h. subst (λ vs. (j : ℕ) → j < length vs → vertex_in vs j < A.quiver.vertices) (sym (c n h).vertices)
+          (canonical_free (sub_rep (covered W M R n))).at_vertex;
       onto = λ w y. (covers 0 (omega arith)).reaches w y (record { by = y; is = mul_one_mat y });
       exact = λ n h. covers_exact (projectives_at W (R.term n)) (target W M R.term n) (R.differential n) (R.term (suc n)) (R.differential (suc n)) (covers (suc n) h);
       minimal = λ n h. (covers n h).minimal;

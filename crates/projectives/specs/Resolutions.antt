@@ -1,5 +1,5 @@
 -- Minimal projective resolutions, and those with canonical generators. (Assem, Simson, Skowroński, volume 1, chapter I, 5, and appendix A, 4.)
-use Rattle.std.specs.Prelude.{ℕ, zero, suc, ◌<◌, ◌≤◌, List}
+use Rattle.std.specs.Prelude.{ℕ, zero, suc, ◌<◌, ◌≤◌, List, length}
 use Rattle.linear_algebra.specs.Field.{Gf}
 use Rattle.representations.specs.Quiver.{Quiver, BoundQuiver}
 use Rattle.representations.specs.Rep.{Rep}
@@ -9,7 +9,7 @@ use Rattle.representations.specs.Submodule.{Submodule}
 use Rattle.projectives.specs.Words.{Words, IsWordBasis}
 use Rattle.projectives.specs.Covers.{KernelInRadical}
 use Rattle.projectives.specs.ReducedSubmodule.{whole, reduced_kernel}
-use Rattle.projectives.specs.CanonicalCover.{projectives_at, IsCanonicalCover}
+use Rattle.projectives.specs.CanonicalCover.{vertex_in, projectives_at, IsCanonicalCover}
 
 -- Sums P 0, P 1, .. of projective modules, by the lists of their vertices, and homomorphisms from P 0 to M, and from P (n + 1) to P n.
 abbrev pub target : {q : Gf} {Q : Quiver} → Words q Q → Rep q Q → (ℕ → List ℕ) → ℕ → Rep q Q
@@ -20,8 +20,10 @@ pub record ProjectiveSequence {q : Gf} {Q : Quiver} (W : Words q Q) (M : Rep q Q
   pub term : ℕ → List ℕ
   pub differential : (n : ℕ) → Hom (projectives_at W (term n)) (target W M term n)
 
--- A minimal projective resolution of M up to place k (at k = 1 a minimal projective presentation): onto M, exact, and each kernel in the radical.
+-- A minimal projective resolution of M up to place k (at k = 1 a minimal projective presentation): sums of projective modules at vertices of the
+-- quiver, onto M, exact, and each kernel in the radical. What stands at later places is not asked.
 pub record IsMinimalResolution {q : Gf} {Q : Quiver} (W : Words q Q) (M : Rep q Q) (R : ProjectiveSequence W M) (k : ℕ) : Type 0 where
+  pub declared : (n : ℕ) → n ≤ k → (j : ℕ) → j < length (R.term n) → vertex_in (R.term n) j < Q.vertices
   pub onto : IsEpi (R.differential zero)
   pub exact : (n : ℕ) → n < k → IsExact (R.differential (suc n)) (R.differential n)
   pub minimal : (n : ℕ) → n ≤ k → KernelInRadical (R.differential n)

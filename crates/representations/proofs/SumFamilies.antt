@@ -60,12 +60,12 @@ module _ {q : Gf} {Q : Quiver} where
   from_family_compose {U} {V} zero X f h = zero_compose (zero_rep q Q) h
   from_family_compose (suc k) X f h = from_sum_compose (from_family k X f) (f k) h ∙ ap (λ z. from_sum z (f k ≫ h)) (from_family_compose k X f h)
 
-  from_family-same : {V : Rep q Q} (k : ℕ) (X : ℕ → Rep q Q) (f g : (i : ℕ) → Hom (X i) V) → ((i : ℕ) → i < k → f i ≡ g i) → from_family k X f ≡ from_family k X g
+  pub from_family-same : {V : Rep q Q} (k : ℕ) (X : ℕ → Rep q Q) (f g : (i : ℕ) → Hom (X i) V) → ((i : ℕ) → i < k → f i ≡ g i) → from_family k X f ≡ from_family k X g
   unfolding from_family
   from_family-same zero X f g h = refl
   from_family-same (suc k) X f g h = ap₂ from_sum (from_family-same k X f g (λ i l. h i (omega arith))) (h k (omega arith))
 
-  from_family-zeros : (V : Rep q Q) (k : ℕ) (X : ℕ → Rep q Q) → from_family k X (λ i. zero_hom (X i) V) ≡ zero_hom (sum_family k X) V
+  pub from_family-zeros : (V : Rep q Q) (k : ℕ) (X : ℕ → Rep q Q) → from_family k X (λ i. zero_hom (X i) V) ≡ zero_hom (sum_family k X) V
   unfolding from_family sum_family
   from_family-zeros V zero X = refl
   from_family-zeros V (suc k) X =
@@ -73,12 +73,12 @@ module _ {q : Gf} {Q : Quiver} where
       ∙ ap₂ (λ a b. a ⊕ b) (compose_zero (onto_first (sum_family k X) (X k)) V) (compose_zero (onto_second (sum_family k X) (X k)) V)
       ∙ sum_zero (zero_hom (sum_rep (sum_family k X) (X k)) V)
 
-  into_family-same : {U : Rep q Q} (k : ℕ) (X : ℕ → Rep q Q) (f g : (i : ℕ) → Hom U (X i)) → ((i : ℕ) → i < k → f i ≡ g i) → into_family k X f ≡ into_family k X g
+  pub into_family-same : {U : Rep q Q} (k : ℕ) (X : ℕ → Rep q Q) (f g : (i : ℕ) → Hom U (X i)) → ((i : ℕ) → i < k → f i ≡ g i) → into_family k X f ≡ into_family k X g
   unfolding into_family
   into_family-same zero X f g h = refl
   into_family-same (suc k) X f g h = ap₂ into_sum (into_family-same k X f g (λ i l. h i (omega arith))) (h k (omega arith))
 
-  into_family-zeros : (U : Rep q Q) (k : ℕ) (X : ℕ → Rep q Q) → into_family k X (λ i. zero_hom U (X i)) ≡ zero_hom U (sum_family k X)
+  pub into_family-zeros : (U : Rep q Q) (k : ℕ) (X : ℕ → Rep q Q) → into_family k X (λ i. zero_hom U (X i)) ≡ zero_hom U (sum_family k X)
   unfolding into_family sum_family
   into_family-zeros U zero X = refl
   into_family-zeros U (suc k) X =

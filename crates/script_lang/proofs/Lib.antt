@@ -4,4 +4,12 @@ mod ListReading
 mod RelatedLaws
 pub mod Steps
 mod PlaceLaws
+mod Decided
 mod ScriptLaws
+mod TokenRanges
+mod LineRanges
+mod SoundStatements
+mod SoundParts
+mod StatementSizes
+mod LineSizes
+pub mod LawfulScripts

@@ -7,3 +7,5 @@ pub mod Parts
 pub mod Scripts
 pub mod Refusals
 pub mod Determined
+pub mod Ranges
+pub mod Lawful

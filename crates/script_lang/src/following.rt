@@ -1,7 +1,5 @@
 //! Lines that follow what has been read.
-ghost use Rattle.std.specs.Prelude.{◌≡◌, ◌≢◌, ◌≤◌, ◌↔◌, length, All, IfOk, MatchBool, IsTrue};
-ghost use Rattle.quiver_paths.specs.declared.Arrow.{Arrow};
-ghost use Rattle.quiver_paths.specs.declared.naming.Name.{Name};
+ghost use Rattle.std.specs.Prelude.{◌≡◌, ◌≤◌, length, IfOk, MatchBool};
 ghost use Rattle.alg_table.specs.Allowed.{is_letter};
 ghost use Rattle.script_lang.specs.Parts.{IsSmall, FitsField, with_field, FitsVertex, with_vertex, vertex_place, awaits_arrows, FitsArrow, with_arrow, FitsBound, with_bound, FitsRelation, with_relation, FitsBasis, with_basis, FitsStatement, opens, with_statement, kind_takes, takes_at, FitsAt, kind_with, place_with, with_at, is_block, FitsEnd, with_end, MayFollow, after};
 
@@ -12,33 +10,10 @@ use super::tokens::{is_word, letter};
 use super::types::{AtLine, Statement, StatementKind};
 use alg_table::Relation;
 use fp_linear::Field;
+use header_text::{is_new_arrow, is_new_vertex};
 use quiver_paths::{Arrow, Name};
 use std::alloc::AllocError;
 use std::mem;
-
-/// Whether no vertex has the name.
-fn is_new_vertex(vertices: &[Name], name: &Name) -> bool
-    ensures { IsTrue result ↔ All (λ (n : Name). n ≢ name.now) vertices.now }
-{
-    for vertex in vertices {
-        if vertex.text() == name.text() {
-            return false;
-        }
-    }
-    true
-}
-
-/// Whether no arrow has the name.
-fn is_new_arrow(arrows: &[Arrow], name: &Name) -> bool
-    ensures { IsTrue result ↔ All (λ (a : Arrow). a.name ≢ name.now) arrows.now }
-{
-    for arrow in arrows {
-        if arrow.name.text() == name.text() {
-            return false;
-        }
-    }
-    true
-}
 
 fn vertex_place(vertices: &[Name], name: &Name) -> Option<u8>
     requires { length vertices.now ≤ 32 }

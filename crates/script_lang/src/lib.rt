@@ -13,7 +13,7 @@ mod statements;
 mod tokens;
 mod types;
 
-pub use laws::texts_are_read_once;
+pub use laws::{scripts_are_lawful, texts_are_read_once};
 pub use reader::{ParseError, parse};
 pub use types::{AtLine, Script, Standard, Statement, StatementKind};
 

@@ -34,40 +34,25 @@ pub enum Line {
 fn field_of(q: Option<u32>) -> Option<Line>
     ensures { result ≡ field_of q }
 {
-    match q {
-        Some(q) => match Field::of(q) {
-            Some(field) => Some(Line::Field(field)),
-            None => None,
-        },
-        None => None,
-    }
+    Some(Line::Field(Field::of(q?)?))
 }
 
 fn read_field(words: &mut Words<'_>) -> Option<Line>
     ensures { result ≡ field_from (one_of words.old) }
 {
-    match one_word(words) {
-        Some(q) => field_of(read_number(q, 27)),
-        None => None,
-    }
+    field_of(read_number(one_word(words)?, 27))
 }
 
 fn vertex_of(name: Option<Name>) -> Option<Line>
     ensures { result ≡ vertex_of name }
 {
-    match name {
-        Some(name) => Some(Line::Vertex(name)),
-        None => None,
-    }
+    Some(Line::Vertex(name?))
 }
 
 fn read_vertex_line(words: &mut Words<'_>) -> Option<Line>
     ensures { result ≡ vertex_from (one_of words.old) }
 {
-    match one_word(words) {
-        Some(name) => vertex_of(read_vertex(name)),
-        None => None,
-    }
+    vertex_of(read_vertex(one_word(words)?))
 }
 
 fn arrow_of(name: Option<Name>, from: Option<Name>, to: Option<Name>) -> Option<Line>
@@ -83,28 +68,20 @@ fn arrow_of(name: Option<Name>, from: Option<Name>, to: Option<Name>) -> Option<
 fn read_arrow(words: &mut Words<'_>) -> Option<Line>
     ensures { result ≡ arrow_from (three_of words.old) }
 {
-    match three_words(words) {
-        Some((name, from, to)) => arrow_of(read_name(name), read_vertex(from), read_vertex(to)),
-        None => None,
-    }
+    let (name, from, to) = three_words(words)?;
+    arrow_of(read_name(name), read_vertex(from), read_vertex(to))
 }
 
 fn bound_of(t: Option<u32>) -> Option<Line>
     ensures { result ≡ bound_of t }
 {
-    match t {
-        Some(t) => Some(Line::Bound(t)),
-        None => None,
-    }
+    Some(Line::Bound(t?))
 }
 
 fn read_bound(words: &mut Words<'_>) -> Option<Line>
     ensures { result ≡ bound_from (one_of words.old) }
 {
-    match one_word(words) {
-        Some(t) => bound_of(read_number(t, 32)),
-        None => None,
-    }
+    bound_of(read_number(one_word(words)?, 32))
 }
 
 fn read_nothing(words: &mut Words<'_>, line: Line) -> Option<Line>
@@ -119,10 +96,7 @@ fn read_nothing(words: &mut Words<'_>, line: Line) -> Option<Line>
 fn statement_line(kind: Option<StatementKind>) -> Option<Line>
     ensures { result ≡ statement_line kind }
 {
-    match kind {
-        Some(kind) => Some(Line::Statement(kind)),
-        None => None,
-    }
+    Some(Line::Statement(kind?))
 }
 
 // A line that takes no memory.
@@ -149,9 +123,10 @@ fn read_short(alloc: Global, word: &[u8], words: &mut Words<'_>) -> Option<Line>
 fn at_line(name: Option<Name>, rows: Option<Seq<Seq<u8>>>) -> Option<Line>
     ensures { result ≡ at_line name rows }
 {
-    let name = name?;
-    let rows = rows?;
-    Some(Line::At(AtLine { name, rows }))
+    Some(Line::At(AtLine {
+        name: name?,
+        rows: rows?,
+    }))
 }
 
 fn read_at(alloc: Global, words: &mut Words<'_>, field: Field) -> Result<Option<Line>, AllocError>
@@ -169,10 +144,7 @@ fn read_at(alloc: Global, words: &mut Words<'_>, field: Field) -> Result<Option<
 fn relation_line(relation: Option<Relation>) -> Option<Line>
     ensures { result ≡ relation_line relation }
 {
-    match relation {
-        Some(relation) => Some(Line::Relation(relation)),
-        None => None,
-    }
+    Some(Line::Relation(relation?))
 }
 
 /// The line that a word and the tokens behind it are.

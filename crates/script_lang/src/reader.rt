@@ -3,6 +3,7 @@ ghost use Rattle.std.specs.Prelude.{◌≡◌, ◌≤◌, length, IfOk, IfErr, M
 ghost use Rattle.script_lang.specs.declared.part.Part.{Part};
 ghost use Rattle.script_lang.specs.Parts.{IsSmall};
 ghost use Rattle.script_lang.specs.Scripts.{counted, TokenStep, start, script_of, IsScript};
+ghost use Rattle.script_lang.specs.Lawful.{IsLawful};
 ghost use Rattle.script_lang.specs.Refusals.{IsRefused};
 
 use super::line::read_line;
@@ -132,6 +133,7 @@ fn script_of(part: Part) -> Script
 pub fn parse(alloc: Global, text: &[u8]) -> Result<Script, ParseError>
     requires { length text.now ≤ 4194304 }
     ensures script { IfOk result (IsScript text.now) }
+    ensures lawful { IfOk result (λ script. IsLawful script) }
     ensures refused { IfErr result (IsRefused text.now) }
 {
     let mut reader = Reader {

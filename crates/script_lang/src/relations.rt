@@ -94,11 +94,9 @@ fn term_of(coef: Option<u32>, path: Option<Path>) -> Option<Term>
     requires { IfSome coef (λ c. c < 256) }
     ensures { result ≡ term_of coef path }
 {
-    let coef = coef?;
-    let path = path?;
     Some(Term {
-        coef: coef as u8,
-        path,
+        coef: coef? as u8,
+        path: path?,
     })
 }
 
@@ -193,10 +191,7 @@ fn read_more(
 fn relation_of(terms: Option<Seq<Term>>) -> Option<Relation>
     ensures { result ≡ relation_of terms }
 {
-    match terms {
-        Some(terms) => Some(Relation { terms }),
-        None => None,
-    }
+    Some(Relation { terms: terms? })
 }
 
 /// The relation that the tokens write, whatever its paths.

@@ -21,10 +21,8 @@ fn name_reference(name: Option<Name>, a: Option<Reference>) -> Option<(Name, Ref
 fn read_unary(words: &mut Words<'_>) -> Option<(Name, Reference)>
     ensures { result ≡ unary_in words.old }
 {
-    match two_words(words) {
-        Some((name, a)) => name_reference(read_name(name), read_reference(a)),
-        None => None,
-    }
+    let (name, a) = two_words(words)?;
+    name_reference(read_name(name), read_reference(a))
 }
 
 // The statement of a new name and a reference that the word begins.
@@ -53,10 +51,8 @@ fn unary_kind(word: &[u8], name: Name, a: Reference) -> Option<StatementKind>
 fn unary_statement(word: &[u8], words: &mut Words<'_>) -> Option<StatementKind>
     ensures { result ≡ unary_from word.now (unary_in words.old) }
 {
-    match read_unary(words) {
-        Some((name, a)) => unary_kind(word, name, a),
-        None => None,
-    }
+    let (name, a) = read_unary(words)?;
+    unary_kind(word, name, a)
 }
 
 fn read_standard(token: &[u8]) -> Option<Standard>
@@ -90,12 +86,8 @@ fn std_kind(
 fn read_std(words: &mut Words<'_>) -> Option<StatementKind>
     ensures { result ≡ std_of (three_of words.old) }
 {
-    match three_words(words) {
-        Some((name, which, vertex)) => {
-            std_kind(read_name(name), read_standard(which), read_vertex(vertex))
-        }
-        None => None,
-    }
+    let (name, which, vertex) = three_words(words)?;
+    std_kind(read_name(name), read_standard(which), read_vertex(vertex))
 }
 
 fn sum_kind(name: Option<Name>, a: Option<Reference>, b: Option<Reference>) -> Option<StatementKind>
@@ -111,10 +103,8 @@ fn sum_kind(name: Option<Name>, a: Option<Reference>, b: Option<Reference>) -> O
 fn read_sum(words: &mut Words<'_>) -> Option<StatementKind>
     ensures { result ≡ sum_of (three_of words.old) }
 {
-    match three_words(words) {
-        Some((name, a, b)) => sum_kind(read_name(name), read_reference(a), read_reference(b)),
-        None => None,
-    }
+    let (name, a, b) = three_words(words)?;
+    sum_kind(read_name(name), read_reference(a), read_reference(b))
 }
 
 fn map_kind(
@@ -136,12 +126,8 @@ fn map_kind(
 fn read_map(alloc: Global, words: &mut Words<'_>) -> Option<StatementKind>
     ensures { result ≡ map_of (three_of words.old) }
 {
-    match three_words(words) {
-        Some((name, a, b)) => {
-            map_kind(alloc, read_name(name), read_reference(a), read_reference(b))
-        }
-        None => None,
-    }
+    let (name, a, b) = three_words(words)?;
+    map_kind(alloc, read_name(name), read_reference(a), read_reference(b))
 }
 
 fn hom_kind(a: Option<Reference>, b: Option<Reference>) -> Option<StatementKind>
@@ -153,10 +139,8 @@ fn hom_kind(a: Option<Reference>, b: Option<Reference>) -> Option<StatementKind>
 fn read_hom(words: &mut Words<'_>) -> Option<StatementKind>
     ensures { result ≡ hom_of (two_of words.old) }
 {
-    match two_words(words) {
-        Some((a, b)) => hom_kind(read_reference(a), read_reference(b)),
-        None => None,
-    }
+    let (a, b) = two_words(words)?;
+    hom_kind(read_reference(a), read_reference(b))
 }
 
 fn resolve_kind(a: Option<Reference>, n: Option<u32>) -> Option<StatementKind>
@@ -168,10 +152,8 @@ fn resolve_kind(a: Option<Reference>, n: Option<u32>) -> Option<StatementKind>
 fn read_resolve(words: &mut Words<'_>) -> Option<StatementKind>
     ensures { result ≡ resolve_of (two_of words.old) }
 {
-    match two_words(words) {
-        Some((a, n)) => resolve_kind(read_reference(a), read_number(n, 16)),
-        None => None,
-    }
+    let (a, n) = two_words(words)?;
+    resolve_kind(read_reference(a), read_number(n, 16))
 }
 
 fn ext_kind(n: Option<u32>, a: Option<Reference>, b: Option<Reference>) -> Option<StatementKind>
@@ -187,10 +169,8 @@ fn ext_kind(n: Option<u32>, a: Option<Reference>, b: Option<Reference>) -> Optio
 fn read_ext(words: &mut Words<'_>) -> Option<StatementKind>
     ensures { result ≡ ext_of (three_of words.old) }
 {
-    match three_words(words) {
-        Some((n, a, b)) => ext_kind(read_number(n, 15), read_reference(a), read_reference(b)),
-        None => None,
-    }
+    let (n, a, b) = three_words(words)?;
+    ext_kind(read_number(n, 15), read_reference(a), read_reference(b))
 }
 
 fn decompose_kind(a: Option<Reference>, name: Option<Name>) -> Option<StatementKind>
@@ -202,15 +182,11 @@ fn decompose_kind(a: Option<Reference>, name: Option<Name>) -> Option<StatementK
 fn read_decompose(words: &mut Words<'_>) -> Option<StatementKind>
     ensures { result ≡ decompose_of (three_of words.old) }
 {
-    match three_words(words) {
-        Some((a, between, name)) => {
-            if is_word(between, b"as") {
-                decompose_kind(read_reference(a), read_name(name))
-            } else {
-                None
-            }
-        }
-        None => None,
+    let (a, between, name) = three_words(words)?;
+    if is_word(between, b"as") {
+        decompose_kind(read_reference(a), read_name(name))
+    } else {
+        None
     }
 }
 
@@ -227,15 +203,11 @@ fn ars_kind(a: Option<Reference>, left: Option<Name>, middle: Option<Name>) -> O
 fn read_ars(words: &mut Words<'_>) -> Option<StatementKind>
     ensures { result ≡ ars_of (four_of words.old) }
 {
-    match four_words(words) {
-        Some((a, between, left, middle)) => {
-            if is_word(between, b"as") {
-                ars_kind(read_reference(a), read_name(left), read_name(middle))
-            } else {
-                None
-            }
-        }
-        None => None,
+    let (a, between, left, middle) = four_words(words)?;
+    if is_word(between, b"as") {
+        ars_kind(read_reference(a), read_name(left), read_name(middle))
+    } else {
+        None
     }
 }
 

@@ -4,33 +4,20 @@ use super::*;
 use std::alloc::Global;
 use std::test::Fail;
 
-// The first bad line of the text, or 0 where it is a script.
-fn bad_line(alloc: Global, text: &[u8]) -> Result<u32, Fail> {
+const HEAD: &str = "field 3\nvertex 1\nvertex 2\narrow a 1 2\narrow b 1 2\narrow x 1 1\nbound 3\n";
+
+// The first bad line of a text, counted from its head on, or 0 where it is a script.
+fn bad_line(alloc: Global, head: &str, lines: &str) -> Result<u32, Fail> {
+    let mut text = Vec::from_slice(alloc, head.as_bytes())?;
+    text.extend_from_slice(lines.as_bytes())?;
     if text.len() > 4_194_304 {
         return Err(Fail::from("too long"));
     }
-    match parse(alloc, text) {
+    match parse(alloc, text.as_slice()) {
         Ok(_) => Ok(0),
         Err(ParseError::BadText { line }) => Ok(line),
         Err(ParseError::NoMemory) => Err(Fail::from("no memory")),
     }
-}
-
-const HEAD: &str = "field 3\nvertex 1\nvertex 2\narrow a 1 2\narrow b 1 2\narrow x 1 1\nbound 3\n";
-
-// The first bad line behind the seven lines of the head, or 0.
-fn bad_in_relations(alloc: Global, lines: &str) -> Result<u32, Fail> {
-    let mut text = Vec::from_slice(alloc, HEAD.as_bytes())?;
-    text.extend_from_slice(lines.as_bytes())?;
-    bad_line(alloc, text.as_slice())
-}
-
-// The first bad line behind the head and `basis`, which are eight lines, or 0.
-fn bad_in_body(alloc: Global, lines: &str) -> Result<u32, Fail> {
-    let mut text = Vec::from_slice(alloc, HEAD.as_bytes())?;
-    text.extend_from_slice(b"basis\n")?;
-    text.extend_from_slice(lines.as_bytes())?;
-    bad_line(alloc, text.as_slice())
 }
 
 #[test]
@@ -47,11 +34,10 @@ fn names_the_first_bad_line_of_a_header(rt: HostRuntime) -> Result<(), Fail> {
         // carriage returns, tabs, comments, empty lines, leading zeros
         ("field 2\r\nvertex v\r\nbound 2\r\nbasis\r\n", 0),
         ("field 2\nvertex v\nbound 2\nbasis\r", 4),
+        ("field 2\nvertex v\nbound 2\nbasis #\r", 0),
+        ("field\t2\nvertex \tv\nbound\t 2\t\nbasis\n", 0),
         ("field 2\r\r\nvertex v\nbound 2\nbasis\n", 1),
-        (
-            "\tfield\t02 # two\n\n#\nvertex v#w\nbound 0000000002\nbasis\n",
-            0,
-        ),
+        ("field 02 # 2\n\n#\nvertex v#w\nbound 0000000002\nbasis", 0),
         ("field 2 # \u{e9}\nvertex v\nbound 2\nbasis\n", 0),
         ("field 2\nvertex \u{e9}\nbound 2\nbasis\n", 2),
         ("field 2\nvertex v\nbound 00000000002\nbasis\n", 3),
@@ -68,19 +54,13 @@ fn names_the_first_bad_line_of_a_header(rt: HostRuntime) -> Result<(), Fail> {
         ("field 2\nbound 2\nbasis\n", 2),
         ("field 2\nvertex v\nbasis\n", 3),
         ("field 2\nvertex v\nbound 2\nvertex w\nbasis\n", 4),
-        (
-            "field 2\nvertex v\narrow a v v\nvertex w\nbound 2\nbasis\n",
-            4,
-        ),
+        ("field 2\nvertex v\narrow a v v\nvertex w\nbound 2\n", 4),
         ("field 2\nvertex v\nbound 2\nbasis\nbasis\n", 5),
         // names
         ("field 2\nvertex v\nvertex v\nbound 2\nbasis\n", 3),
         ("field 2\nvertex 1234567890123456\nbound 2\nbasis\n", 0),
         ("field 2\nvertex 12345678901234567\nbound 2\nbasis\n", 2),
-        (
-            "field 2\nvertex v\narrow a v v\narrow a v v\nbound 2\nbasis\n",
-            4,
-        ),
+        ("field 2\nvertex v\narrow a v v\narrow a v v\nbound 2", 4),
         ("field 2\nvertex v\narrow a v w\nbound 2\nbasis\n", 3),
         ("field 2\nvertex v\narrow 1 v v\nbound 2\nbasis\n", 3),
         // bounds
@@ -88,7 +68,7 @@ fn names_the_first_bad_line_of_a_header(rt: HostRuntime) -> Result<(), Fail> {
         ("field 2\nvertex v\nbound 32\nbasis\n", 0),
         ("field 2\nvertex v\nbound 33\nbasis\n", 3),
     ] {
-        assert_eq!(rt; bad_line(rt.alloc(), text.as_bytes())?, want, "{text:?}");
+        assert_eq!(rt; bad_line(rt.alloc(), "", text)?, want, "{text:?}");
     }
     Ok(())
 }
@@ -126,13 +106,15 @@ fn names_the_first_bad_relation(rt: HostRuntime) -> Result<(), Fail> {
         // before the bound, behind the basis
         ("basis\nrelation x.x\n", 9),
     ] {
-        assert_eq!(rt; bad_in_relations(rt.alloc(), lines)?, want, "{lines:?}");
+        assert_eq!(rt; bad_line(rt.alloc(), HEAD, lines)?, want, "{lines:?}");
     }
     Ok(())
 }
 
 #[test]
 fn names_the_first_bad_statement(rt: HostRuntime) -> Result<(), Fail> {
+    const BODY: &str =
+        "field 3\nvertex 1\nvertex 2\narrow a 1 2\narrow b 1 2\narrow x 1 1\nbound 3\nbasis\n";
     for (lines, want) in [
         ("", 0),
         ("rep M 1 2\nat a 1 2\nat x 0\nend\n", 0),
@@ -163,10 +145,8 @@ fn names_the_first_bad_statement(rt: HostRuntime) -> Result<(), Fail> {
         ("sum N A B.257\n", 9),
         ("sum N A.01 B\n", 9),
         ("sum N A.map.map B\n", 9),
-        (
-            "kernel K F\ncokernel C F.map\nradical R A\ndual D A.inv\n",
-            0,
-        ),
+        ("kernel K F\ncokernel C F.map\n", 0),
+        ("radical R A\ndual D A.inv\n", 0),
         ("transpose T A\ntau T A\ntaui T A\n", 0),
         ("kernel K\n", 9),
         ("kernel K F F\n", 9),
@@ -179,7 +159,7 @@ fn names_the_first_bad_statement(rt: HostRuntime) -> Result<(), Fail> {
         ("iso A B\n", 9),
         ("hom A B\n\n# nothing\nhom A\n", 12),
     ] {
-        assert_eq!(rt; bad_in_body(rt.alloc(), lines)?, want, "{lines:?}");
+        assert_eq!(rt; bad_line(rt.alloc(), BODY, lines)?, want, "{lines:?}");
     }
     Ok(())
 }

@@ -61,10 +61,7 @@ pub fn read_number(token: &[u8], most: u32) -> Option<u32>
 fn part_of(k: Option<u32>) -> Option<Suffix>
     ensures { result ≡ part_of k }
 {
-    match k {
-        Some(k) => Some(Suffix::Part(k)),
-        None => None,
-    }
+    Some(Suffix::Part(k?))
 }
 
 fn begins_with_zero(token: &[u8]) -> bool

@@ -4,4 +4,4 @@ pub mod Digits
 pub mod FormLaws
 pub mod StrictLaws
 mod WordLaws
-mod ShortNumbers
+pub mod ShortNumbers

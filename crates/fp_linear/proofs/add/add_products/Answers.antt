@@ -1,8 +1,7 @@
-use Rattle.std.proofs.Common.{◌≡◌, ◌+◌, ◌*◌, ap, ◌∙◌, arith, get_or}
-use Rattle.std.proofs.lemmas.Nat.{mul-add-lt}
-use Rattle.linear_algebra.specs.Field.{order, add, mul}
+use Rattle.std.proofs.Common.{◌≡◌, ◌+◌, ap, ◌∙◌, arith, get_or, bit_xor}
+use Rattle.linear_algebra.specs.Field.{mul}
 use Rattle.linear_algebra.specs.FieldLaws.{mul_below}
-use Rattle.fp_linear.proofs.Fields.{length-table_of, table_of-at}
+use Rattle.fp_linear.proofs.Fields.{xor_adds}
 use Rattle.fp_linear.proofs.Slices.{IsWritten-none, IsWritten-added, AreElements-added}
 use Rattle.fp_linear.proofs.add.add_products.Goals as goal
 
@@ -13,10 +12,8 @@ pub loop-j-preserved : goal.loop-j-preserved
 loop-j-preserved c =
     let small = c.loop-j.invariant.elements.small in
     let value =
-    ap (λ x. get_or c.sums-sums.result.now ((get_or c.loop-j.entries (c.args.target + c.loop-j.j) 0) * c.size-size.result + x) 0) (c.requires.table.products (get_or c.loop-j.entries (c.args.source + c.loop-j.j) 0) (small _))
-    ∙ ap (λ n. get_or c.sums-sums.result.now ((get_or c.loop-j.entries (c.args.target + c.loop-j.j) 0) * n + mul c.args.field c.args.factor (get_or c.loop-j.entries (c.args.source + c.loop-j.j) 0)) 0) c.size-size.ensures
-    ∙ ap (λ t. get_or t ((get_or c.loop-j.entries (c.args.target + c.loop-j.j) 0) * order c.args.field + mul c.args.field c.args.factor (get_or c.loop-j.entries (c.args.source + c.loop-j.j) 0)) 0) c.sums-sums.ensures
-    ∙ table_of-at (order c.args.field) (add c.args.field) (get_or c.loop-j.entries (c.args.target + c.loop-j.j) 0) (mul c.args.field c.args.factor (get_or c.loop-j.entries (c.args.source + c.loop-j.j) 0)) (small _) (mul_below c.args.field _ _) in
+    ap (λ x. bit_xor (get_or c.loop-j.entries (c.args.target + c.loop-j.j) 0) x) (c.requires.table.products (get_or c.loop-j.entries (c.args.source + c.loop-j.j) 0) (small _))
+    ∙ xor_adds c.args.field (get_or c.loop-j.entries (c.args.target + c.loop-j.j) 0) (mul c.args.field c.args.factor (get_or c.loop-j.entries (c.args.source + c.loop-j.j) 0)) c.requires.binary (small _) (mul_below c.args.field _ _) in
     record {
       written = IsWritten-added c.args.field c.args.factor c.args.source c.args.target c.args.count c.loop-j.j _ c.loop-j.entries _ c.loop-j.invariant.written c.requires.apart c.loop-j-test.true (omega arith) value;
       elements = AreElements-added c.args.field c.loop-j.entries _ _ _ _ c.loop-j.invariant.elements value;
@@ -30,9 +27,3 @@ returns-clause-elements c = c.loop-j.invariant.elements
 
 pub bounds-products-entries : goal.bounds-products-entries
 bounds-products-entries c = rw c.requires.table.count (c.loop-j.invariant.elements.small _)
-
-pub bounds-sums-entries : goal.bounds-sums-entries
-bounds-sums-entries c =
-    let small = c.loop-j.invariant.elements.small in
-    let fits = mul-add-lt (get_or c.loop-j.entries (c.args.target + c.loop-j.j) 0) (order c.args.field) (mul c.args.field c.args.factor (get_or c.loop-j.entries (c.args.source + c.loop-j.j) 0)) (order c.args.field) (small _) (mul_below c.args.field _ _) in
-    rw (c.requires.table.products (get_or c.loop-j.entries (c.args.source + c.loop-j.j) 0) (small _), c.size-size.ensures, c.sums-sums.ensures, length-table_of) fits

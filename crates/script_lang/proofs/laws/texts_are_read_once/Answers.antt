@@ -1,4 +1,4 @@
-use Rattle.script_lang.proofs.ScriptLaws.{one_script, one_bad_line, script_not_bad, text_not_neither}
+use Rattle.script_lang.proofs.ScriptLaws.{one_script, one_bad_line, script_not_bad, text_read_or_bad}
 use Rattle.script_lang.proofs.laws.texts_are_read_once.Goals as goal
 
 pub returns-clause-one : goal.returns-clause-one
@@ -10,5 +10,5 @@ returns-clause-one_bad c = one_bad_line
 pub returns-clause-not_bad : goal.returns-clause-not_bad
 returns-clause-not_bad c = script_not_bad
 
-pub returns-clause-not_neither : goal.returns-clause-not_neither
-returns-clause-not_neither c = text_not_neither
+pub returns-clause-read_or_bad : goal.returns-clause-read_or_bad
+returns-clause-read_or_bad c = text_read_or_bad
