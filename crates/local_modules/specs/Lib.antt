@@ -1,3 +1,7 @@
+pub mod Algebra
+pub mod Certificate
+pub mod Ideal
 pub mod Isomorphic
 pub mod Local
+pub mod MatrixAlgebra
 pub mod Splitting

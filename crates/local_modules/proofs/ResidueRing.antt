@@ -1,0 +1,169 @@
+-- The residue ring of an algebra modulo a two-sided ideal: coordinates at the places that are no pivots of the ideal, classes and their lifts.
+use Rattle.std.proofs.Common.{ℕ, zero, suc, ◌+◌, ◌*◌, ◌<◌, ◌≤◌, ◌≡◌, ◌≢◌, sym, ap, ap₂, ◌∙◌, arith, subst, refl}
+use Rattle.linear_algebra.specs.Field.{Gf, neg}
+use Rattle.linear_algebra.specs.Matrix.{Mat, Row, zeros, one, ◌⊞◌, ◌⊟◌, ◌⊙◌, ◌·◌}
+use Rattle.linear_algebra.specs.Rank.{IsInSpan}
+use Rattle.linear_algebra.specs.RowForm.{CoReducedForm}
+use Rattle.linear_algebra.proofs.MatrixLaws.{mul_assoc_mat, mul_one_mat, mul_zeros, zeros_mul, add_mul_mat, sub_mul_mat, scale_mul, difference, negative_scale, add_swap_mat, negative_sum, negative_negative, sub_eq_zeros, sub_self_mat, add_comm_mat, add_assoc_mat, add_zeros, negative_add, sub_zeros}
+use Rattle.linear_algebra.proofs.Products.{products, sums}
+use Rattle.linear_algebra.proofs.CoReduced.{place_rows, place_rows_undo}
+use Rattle.linear_algebra.proofs.Families.{in_span_scale, in_span_zeros}
+use Rattle.linear_algebra.proofs.Solving.{in_span_sum}
+use Rattle.local_modules.specs.Algebra.{Algebra, Element, power_in, product_in, IsUnitIn, IsNilpotentIn}
+use Rattle.local_modules.specs.Ideal.{IsTwoSided, PowerVanishes, IsCongruent}
+use Rattle.local_modules.proofs.AlgebraLaws.{product_difference, difference_product, power_in-zero, power_in-suc, unit_first, unit_minus_nilpotent, power_in-power, product_in-constant}
+
+-- Congruences.
+module _ {q : Gf} {k n : ℕ} (I : Mat q k n) where
+  pub in_span_difference : (x y : Row q n) → IsInSpan I x → IsInSpan I y → IsInSpan I (x ⊟ y)
+  in_span_difference x y s t = subst (IsInSpan I) (ap (λ z. x ⊞ z) (sym (negative_scale y)) ∙ sym (difference x y)) (in_span_sum I x (neg q 1 ⊙ y) s (in_span_scale I (neg q 1) y t))
+
+  pub congruent_self : (x : Row q n) → IsCongruent I x x
+  congruent_self x = subst (IsInSpan I) (sym (sub_self_mat x)) (in_span_zeros 1 I)
+
+  pub congruent_equal : (x y : Row q n) → x ≡ y → IsCongruent I x y
+  congruent_equal x y e = subst (λ z. IsCongruent I x z) e (congruent_self x)
+
+  -- what is congruent to a member is a member
+  pub congruent_member : (x y : Row q n) → IsCongruent I x y → IsInSpan I y → IsInSpan I x
+  congruent_member x y c s = subst (IsInSpan I) (simp (products, sums)) (in_span_sum I (x ⊟ y) y c s)
+
+module _ {q : Gf} (A : Algebra q) {k : ℕ} (I : Mat q k A.size) (C : CoReducedForm I) where
+  -- The class of an element, and an element of a class.
+  unfoldable pub class_of : Element A → Row q C.size
+  class_of x = x · C.projection
+
+  unfoldable pub lift_of : Row q C.size → Element A
+  lift_of y = y · place_rows q C.size A.size C.place
+
+  pub class_zeros : class_of (zeros q 1 A.size) ≡ zeros q 1 C.size
+  unfolding class_of
+  class_zeros = zeros_mul C.projection
+
+  pub class_sum : (x y : Element A) → class_of (x ⊞ y) ≡ class_of x ⊞ class_of y
+  unfolding class_of
+  class_sum x y = add_mul_mat x y C.projection
+
+  pub class_difference : (x y : Element A) → class_of (x ⊟ y) ≡ class_of x ⊟ class_of y
+  unfolding class_of
+  class_difference x y = sub_mul_mat x y C.projection
+
+  pub class_multiple : (c : ℕ) (x : Element A) → class_of (c ⊙ x) ≡ c ⊙ class_of x
+  unfolding class_of
+  class_multiple c x = scale_mul c x C.projection
+
+  pub lift_zeros : lift_of (zeros q 1 C.size) ≡ zeros q 1 A.size
+  unfolding lift_of
+  lift_zeros = zeros_mul (place_rows q C.size A.size C.place)
+
+  pub lift_sum : (x y : Row q C.size) → lift_of (x ⊞ y) ≡ lift_of x ⊞ lift_of y
+  unfolding lift_of
+  lift_sum x y = add_mul_mat x y (place_rows q C.size A.size C.place)
+
+  pub lift_multiple : (c : ℕ) (x : Row q C.size) → lift_of (c ⊙ x) ≡ c ⊙ lift_of x
+  unfolding lift_of
+  lift_multiple c x = scale_mul c x (place_rows q C.size A.size C.place)
+
+  pub class-lift : (y : Row q C.size) → class_of (lift_of y) ≡ y
+  unfolding class_of lift_of
+  class-lift y = mul_assoc_mat y (place_rows q C.size A.size C.place) C.projection ∙ ap (λ z. y · z) (place_rows_undo C.projection C.place C.coreduced) ∙ mul_one_mat y
+
+  -- The ideal is the class of zero.
+  pub class_of_member : (x : Element A) → IsInSpan I x → class_of x ≡ zeros q 1 C.size
+  unfolding class_of
+  class_of_member x s = ap (λ z. z · C.projection) (sym s.is) ∙ mul_assoc_mat s.by I C.projection ∙ ap (λ z. s.by · z) C.kills ∙ mul_zeros s.by
+
+  pub member_of_class : (x : Element A) → class_of x ≡ zeros q 1 C.size → IsInSpan I x
+  unfolding class_of
+  member_of_class x e = C.spans x e
+
+  pub class_same : (x y : Element A) → IsCongruent I x y → class_of x ≡ class_of y
+  class_same x y c = sub_eq_zeros (class_of x) (class_of y) (sym (class_difference x y) ∙ class_of_member (x ⊟ y) c)
+
+  pub congruent_of_class : (x y : Element A) → class_of x ≡ class_of y → IsCongruent I x y
+  congruent_of_class x y e = member_of_class (x ⊟ y) (class_difference x y ∙ ap (λ z. z ⊟ class_of y) e ∙ sub_self_mat (class_of y))
+
+  pub lift-class : (x : Element A) → IsCongruent I (lift_of (class_of x)) x
+  lift-class x = congruent_of_class (lift_of (class_of x)) x (class-lift (class_of x))
+
+  module _ (t : IsTwoSided A I) where
+    -- Congruences may be multiplied.
+    pub product_congruent : (x y u v : Element A) → IsCongruent I x u → IsCongruent I y v → IsCongruent I (A.product x y) (A.product u v)
+    product_congruent x y u v c d = subst (IsInSpan I) (split (A.product x y) (A.product u y) (A.product u v))
+        (in_span_sum I _ _ (subst (IsInSpan I) (difference_product A x u y) (t.right y (x ⊟ u) c)) (subst (IsInSpan I) (product_difference A u y v) (t.left u (y ⊟ v) d)))
+      where
+        split : (a b c : Element A) → (a ⊟ b) ⊞ (b ⊟ c) ≡ a ⊟ c
+        split a b c = simp (products, sums)
+
+    -- Representatives may be changed before a product.
+    pub class_left : (x y : Element A) → class_of (A.product (lift_of (class_of x)) y) ≡ class_of (A.product x y)
+    class_left x y = class_same _ _ (product_congruent (lift_of (class_of x)) y x y (lift-class x) (congruent_self I y))
+
+    pub class_right : (x y : Element A) → class_of (A.product x (lift_of (class_of y))) ≡ class_of (A.product x y)
+    class_right x y = class_same _ _ (product_congruent x (lift_of (class_of y)) x y (congruent_self I x) (lift-class y))
+
+    pub residue_associates : (x y z : Row q C.size) → class_of (A.product (lift_of (class_of (A.product (lift_of x) (lift_of y)))) (lift_of z)) ≡ class_of (A.product (lift_of x) (lift_of (class_of (A.product (lift_of y) (lift_of z)))))
+    residue_associates x y z = class_left (A.product (lift_of x) (lift_of y)) (lift_of z) ∙ ap class_of (A.associates (lift_of x) (lift_of y) (lift_of z)) ∙ sym (class_right (lift_of x) (A.product (lift_of y) (lift_of z)))
+
+    -- The residue ring.
+    abbrev pub residue_ring : Algebra q
+    residue_ring = record {
+      size = C.size;
+      product = λ x y. class_of (A.product (lift_of x) (lift_of y));
+      unit = class_of A.unit;
+      sum_product = λ x y z. ap (λ u. class_of (A.product u (lift_of z))) (lift_sum x y) ∙ ap class_of (A.sum_product (lift_of x) (lift_of y) (lift_of z)) ∙ class_sum _ _;
+      product_sum = λ x y z. ap (λ u. class_of (A.product (lift_of x) u)) (lift_sum y z) ∙ ap class_of (A.product_sum (lift_of x) (lift_of y) (lift_of z)) ∙ class_sum _ _;
+      multiple_product = λ c x y. ap (λ u. class_of (A.product u (lift_of y))) (lift_multiple c x) ∙ ap class_of (A.multiple_product c (lift_of x) (lift_of y)) ∙ class_multiple c _;
+      product_multiple = λ c x y. ap (λ u. class_of (A.product (lift_of x) u)) (lift_multiple c y) ∙ ap class_of (A.product_multiple c (lift_of x) (lift_of y)) ∙ class_multiple c _;
+      associates = residue_associates;
+      unit_product = λ x. class_left A.unit (lift_of x) ∙ ap class_of (A.unit_product (lift_of x)) ∙ class-lift x;
+      product_unit = λ x. class_right (lift_of x) A.unit ∙ ap class_of (A.product_unit (lift_of x)) ∙ class-lift x;
+    }
+
+    pub class_product : (x y : Element A) → class_of (A.product x y) ≡ residue_ring.product (class_of x) (class_of y)
+    class_product x y = sym (class_left x (lift_of (class_of y)) ∙ class_right x y)
+
+    pub class_power : (x : Element A) (k : ℕ) → class_of (power_in A x k) ≡ power_in residue_ring (class_of x) k
+    class_power x zero = ap class_of (power_in-zero A x) ∙ sym (power_in-zero residue_ring (class_of x))
+    class_power x (suc k) =
+        ap class_of (power_in-suc A x k) ∙ class_product x (power_in A x k) ∙ ap (residue_ring.product (class_of x)) (class_power x k) ∙ sym (power_in-suc residue_ring (class_of x) k)
+
+    pub class_product_in : (h : ℕ → Element A) (k : ℕ) → class_of (product_in A h k) ≡ product_in residue_ring (λ i. class_of (h i)) k
+    unfolding product_in
+    class_product_in h zero = refl
+    class_product_in h (suc k) = class_product (product_in A h k) (h k) ∙ ap (λ z. residue_ring.product z (class_of (h k))) (class_product_in h k)
+
+    -- The class of an invertible or nilpotent element is invertible or nilpotent.
+    pub class_unit : (x : Element A) → IsUnitIn A x → IsUnitIn residue_ring (class_of x)
+    class_unit x i = record {
+      inverse = class_of i.inverse;
+      right = sym (class_product x i.inverse) ∙ ap class_of i.right;
+      left = sym (class_product i.inverse x) ∙ ap class_of i.left;
+    }
+
+    pub class_nilpotent : (x : Element A) → IsNilpotentIn A x → IsNilpotentIn residue_ring (class_of x)
+    class_nilpotent x n = record { exponent = n.exponent; vanishes = sym (class_power x n.exponent) ∙ ap class_of n.vanishes ∙ class_zeros }
+
+    module _ (s : ℕ) (v : PowerVanishes A I s) where
+      -- Conversely, where a power of the ideal is zero.
+      pub member_nilpotent : (x : Element A) → IsInSpan I x → IsNilpotentIn A x
+      member_nilpotent x m = record { exponent = s; vanishes = sym (constant s) ∙ v (λ i. x) (λ i l. m) }
+        where
+          constant : (k : ℕ) → product_in A (λ i. x) k ≡ power_in A x k
+          constant k = product_in-constant A x k
+
+      pub unit_of_class : (x : Element A) → IsUnitIn residue_ring (class_of x) → IsUnitIn A x
+      unit_of_class x i = unit_first A x (lift_of i.inverse) (subst (IsUnitIn A) back (unit_minus_nilpotent A (A.unit ⊟ A.product x (lift_of i.inverse)) (member_nilpotent (A.unit ⊟ A.product x (lift_of i.inverse)) congruent)))
+        where
+          congruent : IsCongruent I A.unit (A.product x (lift_of i.inverse))
+          congruent = congruent_of_class A.unit (A.product x (lift_of i.inverse))
+              (sym i.right ∙ ap (residue_ring.product (class_of x)) (sym (class-lift i.inverse)) ∙ sym (class_product x (lift_of i.inverse)))
+
+          back : A.unit ⊟ (A.unit ⊟ A.product x (lift_of i.inverse)) ≡ A.product x (lift_of i.inverse)
+          back = simp (products, sums)
+
+      pub nilpotent_of_class : (x : Element A) → IsNilpotentIn residue_ring (class_of x) → IsNilpotentIn A x
+      nilpotent_of_class x n = up (member_nilpotent (power_in A x n.exponent) (member_of_class (power_in A x n.exponent) (class_power x n.exponent ∙ n.vanishes)))
+        where
+          up : IsNilpotentIn A (power_in A x n.exponent) → IsNilpotentIn A x
+          up m = record { exponent = n.exponent * m.exponent; vanishes = sym (power_in-power A x n.exponent m.exponent) ∙ m.vanishes }
