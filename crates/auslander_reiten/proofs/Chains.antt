@@ -1,18 +1,16 @@
 -- Powers along a homomorphism, inverses along a homomorphism, and rows through composites that are zero.
 use Rattle.std.proofs.Common.{ℕ, zero, suc, ◌*◌, ◌+◌, ◌<◌, ◌≡◌, ◌≢◌, ◌⊎◌, inl, inr, sym, ap, ◌∙◌, arith}
 use Rattle.linear_algebra.specs.Field.{Gf}
-use Rattle.linear_algebra.specs.Matrix.{Mat, zeros, one, ◌·◌}
+use Rattle.linear_algebra.specs.Matrix.{Mat, zeros, ◌·◌}
 use Rattle.linear_algebra.proofs.MatrixLaws.{mul_assoc_mat, mul_zeros}
 use Rattle.linear_algebra.proofs.Search.{search_or_all, zero_or_not}
-use Rattle.linear_algebra.proofs.Steinitz.{steinitz, through_none}
 use Rattle.std.proofs.lemmas.Bool.{cases_lt}
 use Rattle.representations.specs.Quiver.{Quiver}
 use Rattle.representations.specs.Rep.{Rep}
 use Rattle.representations.specs.Hom.{Hom, ◌≫◌, ◌⊕◌, identity, zero_hom, negative_hom, power}
 use Rattle.representations.specs.Module.{IsIso, IsNilpotent, IsZero}
-use Rattle.representations.proofs.Homs.{compose_assoc, compose_identity, identity_compose, compose_zero, sum_zero, zero_sum, sum_assoc, negative_add_hom, identity-at, zero_hom-at, same-at, power-zero, power-suc, power-add}
+use Rattle.representations.proofs.Homs.{compose_assoc, compose_identity, identity_compose, sum_zero, zero_sum, sum_assoc, negative_add_hom, power-zero, power-suc, power-add}
 use Rattle.representations.proofs.Kernels.{complex_zero}
-use Rattle.local_modules.specs.Local.{IsLocal}
 
 next : (m n : ℕ) → m + n * m ≡ suc n * m
 next m n = omega arith
@@ -64,19 +62,3 @@ module _ {q : Gf} {Q : Quiver} where
   pub equal_of_difference : {X Y : Rep q Q} (f g : Hom X Y) → f ⊕ negative_hom g ≡ zero_hom X Y → f ≡ g
   equal_of_difference {X} {Y} f g e =
       sym (sum_zero f) ∙ ap (λ z. f ⊕ z) (sym (negative_add_hom g)) ∙ sym (sum_assoc f (negative_hom g) g) ∙ ap (λ z. z ⊕ g) e ∙ zero_sum g
-
-  -- Where the identity is zero, the representation is; and a nilpotent endomorphism of what is not zero is no isomorphism.
-  pub zero_of_identity : (X : Rep q Q) → identity X ≡ zero_hom X X → IsZero X
-  zero_of_identity X e w =
-      let all : one q (X.dim w) ≡ zeros q (X.dim w) (X.dim w) = sym (identity-at X w) ∙ same-at e w ∙ zero_hom-at X X w in
-      let none = steinitz (zeros q (X.dim w) 0) (zeros q 0 (X.dim w)) (through_none (zeros q (X.dim w) 0) (zeros q 0 (X.dim w)) ∙ sym all) in
-      omega arith
-
-  vanishes_down : {X : Rep q Q} (x : Hom X X) → IsIso x → (n : ℕ) → power x n ≡ zero_hom X X → identity X ≡ zero_hom X X
-  vanishes_down x i zero e = sym (power-zero x) ∙ e
-  vanishes_down {X} x i (suc n) e = vanishes_down x i n (
-      sym (identity_compose (power x n)) ∙ ap (λ z. z ≫ power x n) (sym i.left) ∙ compose_assoc i.inverse x (power x n)
-      ∙ ap (λ z. i.inverse ≫ z) (sym (power-suc x n) ∙ e) ∙ compose_zero i.inverse X)
-
-  pub nilpotent_no_iso : {X : Rep q Q} → IsLocal X → (x : Hom X X) → IsNilpotent x → IsIso x → ⊥
-  nilpotent_no_iso {X} l x n i = l.nonzero (zero_of_identity X (vanishes_down x i n.exponent n.vanishes) l.vertex)

@@ -25,9 +25,10 @@ use Rattle.projectives.specs.Pairing.{pairing}
 use Rattle.projectives.proofs.Yoneda.{generator-yoneda, projective_lifts}
 use Rattle.projectives.proofs.Families.{projectives_mod}
 use Rattle.projectives.proofs.Pairing.{pairing-natural}
+use Rattle.local_modules.proofs.LocalRings.{never_both}
 use Rattle.auslander_reiten.specs.AlmostSplit.{Lifts, IsShortExact}
 use Rattle.auslander_reiten.specs.SequenceData.{LocalPresentation, EndFunctional, SequenceData, IsDetected}
-use Rattle.auslander_reiten.proofs.Chains.{zero_on_rows, equal_of_difference, nilpotent_no_iso}
+use Rattle.auslander_reiten.proofs.Chains.{zero_on_rows, equal_of_difference}
 use Rattle.auslander_reiten.proofs.Presentations.{presentation_zero, through_cover, cover_splits}
 use Rattle.auslander_reiten.proofs.Criterion.{ComesThrough, IsSeen, through_vanishes, through_or_seen}
 
@@ -101,7 +102,7 @@ module _ {q : Gf} {A : BoundQuiver} (T : TwoSided q A) {L E M : Rep q A.quiver} 
   -- Each homomorphism to M lifts, or is a split epimorphism.
   split_of : {X : Rep q A.quiver} (h : Hom X M) (w : IsDetected T D F h) → IsIso (w.by ≫ h) ⊎ IsNilpotent (w.by ≫ h) → IsSplitEpi h
   split_of h w (inl i) = record { section = i.inverse ≫ w.by; is = compose_assoc i.inverse w.by h ∙ i.left }
-  split_of h w (inr n) = absurd (zeros_not_one q (sym (F.vanishes (w.by ≫ h) (nilpotent_no_iso D.local (w.by ≫ h) n)) ∙ w.sees))
+  split_of h w (inr n) = absurd (zeros_not_one q (sym (F.vanishes (w.by ≫ h) (never_both D.local (w.by ≫ h) n)) ∙ w.sees))
 
   pub lifts_or_splits : {X : Rep q A.quiver} → IsMod A X → (h : Hom X M) → Lifts g h ⊎ IsSplitEpi h
   lifts_or_splits N h = elim (lifts_or_detected N h) [ inl l ↦ inl l | inr w ↦ inr (split_of h w (D.local.decides (w.by ≫ h))) ]
