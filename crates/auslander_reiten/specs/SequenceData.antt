@@ -14,7 +14,7 @@ use Rattle.projectives.specs.Transposed.{nakayama}
 use Rattle.projectives.specs.Pairing.{pairing}
 use Rattle.local_modules.specs.Local.{IsLocal}
 use Rattle.auslander_reiten.specs.Presentation.{IsMinimalPresentation}
-use Rattle.auslander_reiten.specs.Translates.{IsKernel, IsTranslate}
+use Rattle.auslander_reiten.specs.Translates.{IsKernel, IsReduced, IsTranslate}
 
 -- A local module M with a minimal presentation P → P' → M, by d and c, where P is not zero: M is not projective. P is the sum of the projective
 -- modules at k vertices v, and P' that of those at h vertices u.
@@ -52,3 +52,13 @@ pub record SequenceData {q : Gf} {A : BoundQuiver} (T : TwoSided q A) {L E M : R
 pub record IsDetected {q : Gf} {A : BoundQuiver} (T : TwoSided q A) {X M : Rep q A.quiver} (D : LocalPresentation T M) (F : EndFunctional T D) (h : Hom X M) : Type 0 where
   pub by : Hom M X
   pub sees : pairing T D.h D.u (D.c ≫ (by ≫ h)) F.t ≡ one q 1
+
+-- A sequence of these data, with both embeddings in reduced row form.
+pub record CanonicalSequence {q : Gf} {A : BoundQuiver} (T : TwoSided q A) {M : Rep q A.quiver} (D : LocalPresentation T M) (F : EndFunctional T D) : Type 0 where
+  pub left_end : Rep q A.quiver
+  pub middle_term : Rep q A.quiver
+  pub f : Hom left_end middle_term
+  pub g : Hom middle_term M
+  pub sequence : SequenceData T D F f g
+  pub left_reduced : IsReduced sequence.i
+  pub middle_reduced : IsReduced sequence.j
