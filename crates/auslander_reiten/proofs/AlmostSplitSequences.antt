@@ -1,19 +1,18 @@
 -- The sequence of the data is almost split; the data exist for each local module that is not projective.
-use Rattle.std.proofs.Common.{ℕ, ◌+◌, ◌≡◌, ◌⊎◌, inl, inr, sym, ap, ◌∙◌, arith, refl, List, length}
+use Rattle.std.proofs.Common.{ℕ, ◌+◌, ◌≡◌, ◌⊎◌, inl, inr, sym, ap, ◌∙◌, arith, refl, length}
 use Rattle.linear_algebra.specs.Field.{Gf}
-use Rattle.linear_algebra.specs.Matrix.{Row, zeros, ◌·◌}
 use Rattle.linear_algebra.proofs.Subspaces.{through_zero}
 use Rattle.linear_algebra.proofs.Solving.{surjective_left_inverse}
 use Rattle.linear_algebra.proofs.Ranks.{rank_left_inverse}
 use Rattle.linear_algebra.proofs.RowForm.{reduced_form}
 use Rattle.representations.specs.Quiver.{Quiver, BoundQuiver}
 use Rattle.representations.specs.Rep.{Rep, IsMod}
-use Rattle.representations.specs.Hom.{Hom, ◌≫◌, ◌⊕◌, identity, zero_hom, negative_hom}
-use Rattle.representations.specs.Module.{IsMono, IsEpi, IsSplitMono, IsSplitEpi, IsZero}
+use Rattle.representations.specs.Hom.{Hom, ◌≫◌, negative_hom}
+use Rattle.representations.specs.Module.{IsMono, IsSplitMono, IsSplitEpi, IsZero}
 use Rattle.representations.specs.Factoring.{FactorsBefore}
 use Rattle.representations.specs.Submodule.{Submodule, sub_rep, inclusion}
-use Rattle.representations.specs.Sum.{sum_rep, into_first, onto_first, onto_second, from_sum}
-use Rattle.representations.proofs.Homs.{compose_assoc, compose_zero}
+use Rattle.representations.specs.Sum.{sum_rep, into_first, onto_second, from_sum}
+use Rattle.representations.proofs.Homs.{compose_assoc}
 use Rattle.representations.proofs.Endomorphisms.{iso_of_both}
 use Rattle.representations.proofs.Paths.{IsMod-mono}
 use Rattle.representations.proofs.Submodules.{inclusion_mono}
@@ -26,14 +25,16 @@ use Rattle.projectives.specs.Transposed.{nakayama}
 use Rattle.projectives.specs.ReducedSubmodule.{reduced, reduced_kernel}
 use Rattle.projectives.specs.CanonicalCover.{vertex_in}
 use Rattle.projectives.specs.Resolutions.{ProjectiveSequence}
+use Rattle.projectives.proofs.Families.{projectives_mod, projectives_lift}
 use Rattle.projectives.proofs.Nakayama.{injectives_mod}
 use Rattle.projectives.proofs.Resolutions.{reduced_kernel_exact, canonical_minimal, canonical_resolution, canonical_resolution_canonical}
 use Rattle.local_modules.specs.Local.{IsLocal}
-use Rattle.auslander_reiten.specs.Presentation.{IsMinimalPresentation}
+use Rattle.auslander_reiten.specs.Presentation.{IsMinimalPresentation, IsProjective}
 use Rattle.auslander_reiten.specs.Translates.{IsKernel, IsReduced}
-use Rattle.auslander_reiten.specs.AlmostSplit.{Lifts, Extends, IsShortExact, IsAlmostSplit}
+use Rattle.auslander_reiten.specs.AlmostSplit.{Lifts, Extends, IsShortExact, IsAlmostSplit, AlmostSplitSequence}
 use Rattle.auslander_reiten.specs.SequenceData.{LocalPresentation, EndFunctional, SequenceData, CanonicalSequence}
-use Rattle.auslander_reiten.proofs.Presentations.{presentation_of_resolution}
+use Rattle.auslander_reiten.proofs.Chains.{nonzero_or_zero}
+use Rattle.auslander_reiten.proofs.Presentations.{presentation_of_resolution, cover_splits}
 use Rattle.auslander_reiten.proofs.Lifting.{lifts_or_splits, right_not_split, sequence_exact}
 use Rattle.auslander_reiten.proofs.Companions.{translate_mod, translate_local}
 use Rattle.auslander_reiten.proofs.LeftProperty.{extends_or_splits}
@@ -135,8 +136,17 @@ module _ {q : Gf} {A : BoundQuiver} (T : TwoSided q A) (M : Rep q A.quiver) (N :
   cover_mono : IsZero (projectives T.words (length (resolution.term 1)) (vertex_in (resolution.term 1))) → IsMono (resolution.differential 0)
   cover_mono z w x e = let s = minimal_presentation.exact.exact w x e in sym s.is ∙ through_zero s.by ((resolution.differential 1).at w) (z w)
 
-  pub local_presentation : IsLocal M → ((k : ℕ) (v : ℕ → ℕ) (h : Hom (projectives T.words k v) M) → IsSplitEpi h → ⊥) → LocalPresentation T M
-  local_presentation l n = record {
+  -- M is projective, or P is not zero.
+  abbrev first_term : Rep q A.quiver
+  first_term = projectives T.words (length (resolution.term 1)) (vertex_in (resolution.term 1))
+
+  projective_of_zero : IsZero first_term → IsProjective T.words M
+  projective_of_zero z =
+      let i = iso_of_both (resolution.differential 0) (cover_mono z) minimal_presentation.onto in
+      record { k = length (resolution.term 0); v = vertex_in (resolution.term 0); onto = resolution.differential 0; splits = record { section = i.inverse; is = i.left } }
+
+  presented : IsLocal M → (IsZero first_term → ⊥) → LocalPresentation T M
+  presented l n = record {
     is_module = N;
     local = l;
     k = length (resolution.term 1);
@@ -146,16 +156,46 @@ module _ {q : Gf} {A : BoundQuiver} (T : TwoSided q A) (M : Rep q A.quiver) (N :
     d = resolution.differential 1;
     c = resolution.differential 0;
     presentation = minimal_presentation;
-    not_projective = λ z.
-        let i = iso_of_both (resolution.differential 0) (cover_mono z) minimal_presentation.onto in
-        n (length (resolution.term 0)) (vertex_in (resolution.term 0)) (resolution.differential 0) (record { section = i.inverse; is = i.left });
+    not_projective = n;
   }
 
-  -- So each local module that is not projective is the right end of an almost split sequence.
-  pub ends_almost_split : IsLocal M → ((k : ℕ) (v : ℕ → ℕ) (h : Hom (projectives T.words k v) M) → IsSplitEpi h → ⊥)
-      → (L E : Rep q A.quiver) × IsMod A L × IsMod A E × (f : Hom L E) × (g : Hom E M) × IsAlmostSplit A f g
-  ends_almost_split l n =
-      let D = local_presentation l n in
+  pub presented_or_projective : IsLocal M → LocalPresentation T M ⊎ IsProjective T.words M
+  presented_or_projective l = elim (nonzero_or_zero first_term) [
+    | inl w ↦ inl (presented l (λ z. w.1 (z w.0)))
+    | inr z ↦ inr (projective_of_zero z)
+  ]
+
+-- What has such a presentation is not projective.
+pub presented_not_projective : {q : Gf} {A : BoundQuiver} (T : TwoSided q A) {M : Rep q A.quiver} → LocalPresentation T M → IsProjective T.words M → ⊥
+presented_not_projective {A = A} T {M} D p =
+    let P' = projectives_mod A T.words T.basis D.h D.u in
+    let x = projectives_lift A T.words T.basis p.k p.v (projectives T.words D.h D.u) M P' D.is_module D.c D.presentation.onto p.onto in
+    D.not_projective (cover_splits A (projectives_mod A T.words T.basis D.k D.v) P' D.d D.c D.presentation (p.splits.section ≫ x.0)
+    (compose_assoc p.splits.section x.0 D.c ∙ ap (λ z. p.splits.section ≫ z) x.1 ∙ p.splits.is))
+
+-- So each local module is projective, or the right end of an almost split sequence, and never both.
+module _ {q : Gf} {A : BoundQuiver} (T : TwoSided q A) (M : Rep q A.quiver) where
+  pub sequence_ending : LocalPresentation T M → AlmostSplitSequence A M
+  sequence_ending D =
       let F = end_functional T D in
       let c = canonical_sequence T D F in
-      (c.left_end, c.middle_term, left_mod T D F c.f c.g c.sequence, middle_mod T D F c.f c.g c.sequence, c.f, c.g, almost_split T D F c.f c.g c.sequence)
+      record {
+        left_end = c.left_end;
+        middle_term = c.middle_term;
+        left_module = left_mod T D F c.f c.g c.sequence;
+        middle_module = middle_mod T D F c.f c.g c.sequence;
+        f = c.f;
+        g = c.g;
+        almost_split = almost_split T D F c.f c.g c.sequence;
+      }
+
+  pub ends_or_projective : IsMod A M → IsLocal M → AlmostSplitSequence A M ⊎ IsProjective T.words M
+  ends_or_projective N l = elim (presented_or_projective T M N l) [ inl D ↦ inl (sequence_ending D) | inr p ↦ inr p ]
+
+  pub ends_not_projective : IsMod A M → AlmostSplitSequence A M → IsProjective T.words M → ⊥
+  ends_not_projective N s p =
+      let x = projectives_lift A T.words T.basis p.k p.v s.middle_term M s.middle_module N s.g s.almost_split.short_exact.onto p.onto in
+      s.almost_split.not_split (record {
+        section = p.splits.section ≫ x.0;
+        is = compose_assoc p.splits.section x.0 s.g ∙ ap (λ z. p.splits.section ≫ z) x.1 ∙ p.splits.is;
+      })

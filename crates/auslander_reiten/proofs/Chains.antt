@@ -50,13 +50,16 @@ module _ {q : Gf} {Q : Quiver} where
   pub nilpotent_of_power : {X : Rep q Q} (x : Hom X X) (m : ℕ) → IsNilpotent (power x m) → IsNilpotent x
   nilpotent_of_power x m n = record { exponent = n.exponent * m; vanishes = sym (power-mul x m n.exponent) ∙ n.vanishes }
 
-  -- What is not zero has a vertex at which it is not.
-  pub nonzero_vertex : (X : Rep q Q) → (IsZero X → ⊥) → (w : ℕ) × (X.dim w ≢ zero)
-  nonzero_vertex X n = go (search_or_all Q.vertices (λ w. X.dim w ≢ zero) (λ w. X.dim w ≡ zero) (λ w. zero_or_not (X.dim w)))
+  -- There is a vertex at which a representation is not zero, or it is zero.
+  pub nonzero_or_zero : (X : Rep q Q) → ((w : ℕ) × (X.dim w ≢ zero)) ⊎ IsZero X
+  nonzero_or_zero X = go (search_or_all Q.vertices (λ w. X.dim w ≢ zero) (λ w. X.dim w ≡ zero) (λ w. zero_or_not (X.dim w)))
     where
-      go : (((w : ℕ) × (w < Q.vertices) × (X.dim w ≢ zero)) ⊎ ((w : ℕ) → w < Q.vertices → X.dim w ≡ zero)) → (w : ℕ) × (X.dim w ≢ zero)
-      go (inl f) = (f.0, f.2)
-      go (inr all) = absurd (n (λ w. elim (cases_lt w Q.vertices) [ inl l ↦ all w l | inr l ↦ X.past w l ]))
+      go : (((w : ℕ) × (w < Q.vertices) × (X.dim w ≢ zero)) ⊎ ((w : ℕ) → w < Q.vertices → X.dim w ≡ zero)) → ((w : ℕ) × (X.dim w ≢ zero)) ⊎ IsZero X
+      go (inl f) = inl (f.0, f.2)
+      go (inr all) = inr (λ w. elim (cases_lt w Q.vertices) [ inl l ↦ all w l | inr l ↦ X.past w l ])
+
+  pub nonzero_vertex : (X : Rep q Q) → (IsZero X → ⊥) → (w : ℕ) × (X.dim w ≢ zero)
+  nonzero_vertex X n = elim (nonzero_or_zero X) [ inl w ↦ w | inr z ↦ absurd (n z) ]
 
   -- What differs by zero is equal.
   pub equal_of_difference : {X Y : Rep q Q} (f g : Hom X Y) → f ⊕ negative_hom g ≡ zero_hom X Y → f ≡ g

@@ -3,13 +3,11 @@
 use Rattle.std.proofs.Common.{ℕ, ◌≡◌, ◌⊎◌, inl, inr, sym, ap, ◌∙◌}
 use Rattle.linear_algebra.specs.Field.{Gf}
 use Rattle.linear_algebra.specs.Matrix.{Row, zeros, ◌·◌}
-use Rattle.linear_algebra.specs.Rank.{IsInSpan}
-use Rattle.linear_algebra.proofs.MatrixLaws.{mul_assoc_mat, zeros_mul}
 use Rattle.linear_algebra.proofs.Subspaces.{through_zero}
 use Rattle.representations.specs.Quiver.{BoundQuiver}
 use Rattle.representations.specs.Rep.{Rep, IsMod}
 use Rattle.representations.specs.Hom.{Hom, ◌≫◌, identity, zero_hom, power}
-use Rattle.representations.specs.Module.{IsMono, IsIso, IsNilpotent, IsSplitMono, IsZero}
+use Rattle.representations.specs.Module.{IsMono, IsIso, IsNilpotent, IsZero}
 use Rattle.representations.specs.Factoring.{FactorsBefore}
 use Rattle.representations.proofs.Homs.{compose_assoc, compose_identity, identity_compose, compose_zero, zero_compose, zero_multiple}
 use Rattle.representations.proofs.Paths.{IsMod-mono}
@@ -103,7 +101,7 @@ module _ {q : Gf} {A : BoundQuiver} (T : TwoSided q A) {L M : Rep q A.quiver} (D
   companions_of : (n : Hom L L) (a : Hom P P) (b : Hom P' P') → i ≫ on_P a ≡ n ≫ i → a ≫ D.d ≡ D.d ≫ b → Companions n
   companions_of n a b e s =
       let x = through_cover D.d D.c D.presentation (b ≫ D.c) (
-            sym (compose_assoc D.d b D.c) ∙ ap (λ z. z ≫ D.c) (sym s) ∙ compose_assoc a D.d D.c ∙ ap (λ z. a ≫ z) (presentation_zero D.d D.c D.presentation) ∙ compose_zero a M) in
+      sym (compose_assoc D.d b D.c) ∙ ap (λ z. z ≫ D.c) (sym s) ∙ compose_assoc a D.d D.c ∙ ap (λ z. a ≫ z) (presentation_zero D.d D.c D.presentation) ∙ compose_zero a M) in
       record { on_first = a; on_second = b; on_end = x.factor; embedding = e; differential = s; cover = x.is }
 
   pub companions : (n : Hom L L) → Companions n
@@ -138,8 +136,8 @@ module _ {q : Gf} {A : BoundQuiver} (T : TwoSided q A) {L M : Rep q A.quiver} (D
     second_iso j =
         let x = projectives_lift A T.words T.basis D.h D.u P' M P'_mod D.is_module D.c D.presentation.onto (D.c ≫ j.inverse) in
         iso_of_composites p.on_second x.0
-            (over_cover A P'_mod D.c D.presentation.minimal_cover (p.on_second ≫ x.0) (lifted_inverse p.on_second x.0 D.c p.on_end j.inverse (sym p.cover) x.1 j.right))
-            (over_cover A P'_mod D.c D.presentation.minimal_cover (x.0 ≫ p.on_second) (lifted_inverse x.0 p.on_second D.c j.inverse p.on_end x.1 (sym p.cover) j.left))
+        (over_cover A P'_mod D.c D.presentation.minimal_cover (p.on_second ≫ x.0) (lifted_inverse p.on_second x.0 D.c p.on_end j.inverse (sym p.cover) x.1 j.right))
+        (over_cover A P'_mod D.c D.presentation.minimal_cover (x.0 ≫ p.on_second) (lifted_inverse x.0 p.on_second D.c j.inverse p.on_end x.1 (sym p.cover) j.left))
 
     second_back : (j : IsIso p.on_end) (y : IsIso p.on_second) → (D.d ≫ y.inverse) ≫ D.c ≡ zero_hom P M
     second_back j y =
@@ -150,8 +148,8 @@ module _ {q : Gf} {A : BoundQuiver} (T : TwoSided q A) {L M : Rep q A.quiver} (D
     first_iso j y =
         let x = lift_to_kernel A T.words T.basis D.k D.v P_mod P'_mod D.d D.c D.presentation.exact (D.d ≫ y.inverse) (second_back j y) in
         iso_of_composites p.on_first x.0
-            (over_cover A P_mod D.d D.presentation.minimal (p.on_first ≫ x.0) (lifted_inverse p.on_first x.0 D.d p.on_second y.inverse p.differential x.1 y.right))
-            (over_cover A P_mod D.d D.presentation.minimal (x.0 ≫ p.on_first) (lifted_inverse x.0 p.on_first D.d y.inverse p.on_second x.1 p.differential y.left))
+        (over_cover A P_mod D.d D.presentation.minimal (p.on_first ≫ x.0) (lifted_inverse p.on_first x.0 D.d p.on_second y.inverse p.differential x.1 y.right))
+        (over_cover A P_mod D.d D.presentation.minimal (x.0 ≫ p.on_first) (lifted_inverse x.0 p.on_first D.d y.inverse p.on_second x.1 p.differential y.left))
 
     iso_above : IsIso (on_P p.on_first) → IsIso (on_P' p.on_second) → IsIso n
     iso_above a b = record {

@@ -1,6 +1,6 @@
 -- From the right end to the left: where each homomorphism to M lifts or is a split epimorphism, g is none, and L is local, each homomorphism out of
 -- L extends along f, or is a split monomorphism.
-use Rattle.std.proofs.Common.{ℕ, ◌≡◌, ◌⊎◌, inl, inr, sym, ap, ◌∙◌}
+use Rattle.std.proofs.Common.{◌≡◌, ◌⊎◌, inl, inr, sym, ap, ◌∙◌}
 use Rattle.linear_algebra.specs.Field.{Gf}
 use Rattle.representations.specs.Quiver.{BoundQuiver}
 use Rattle.representations.specs.Rep.{Rep, IsMod}
@@ -8,10 +8,10 @@ use Rattle.representations.specs.Hom.{Hom, ◌≫◌, ◌⊕◌, identity, zero_
 use Rattle.representations.specs.Module.{IsIso, IsNilpotent, IsSplitMono, IsSplitEpi}
 use Rattle.representations.specs.Factoring.{FactorsBefore}
 use Rattle.representations.specs.Kernel.{cokernel}
-use Rattle.representations.proofs.Homs.{compose_assoc, compose_identity, identity_compose, zero_compose, compose_zero, compose_sum, sum_compose, compose_negative, negative_compose, sum_negative, sum_zero, negative_add_hom}
+use Rattle.representations.proofs.Homs.{compose_assoc, compose_identity, identity_compose, zero_compose, compose_sum, sum_compose, compose_negative, negative_compose, sum_negative, sum_zero, negative_add_hom}
 use Rattle.representations.proofs.Factoring.{epi_cancels, mono_cancels}
 use Rattle.representations.proofs.Submodules.{IsMod-quotient}
-use Rattle.representations.proofs.Kernels.{IsExact-zero, through_kernel, through_cokernel}
+use Rattle.representations.proofs.Kernels.{through_kernel, through_cokernel}
 use Rattle.representations.proofs.Sums.{IsMod-sum}
 use Rattle.local_modules.specs.Local.{IsLocal}
 use Rattle.auslander_reiten.specs.AlmostSplit.{Lifts, Extends, IsShortExact}
@@ -31,8 +31,8 @@ module _ {q : Gf} (A : BoundQuiver) {L E M : Rep q A.quiver} (f : Hom L E) (g : 
     rest_end =
         sum_compose (identity W) (negative_hom (to_end f g e h ≫ s)) (to_end f g e h)
         ∙ ap (λ z. identity W ≫ to_end f g e h ⊕ z) (
-            negative_compose (to_end f g e h ≫ s) (to_end f g e h)
-            ∙ ap negative_hom (compose_assoc (to_end f g e h) s (to_end f g e h) ∙ ap (λ z. to_end f g e h ≫ z) is ∙ compose_identity (to_end f g e h) ∙ sym (identity_compose (to_end f g e h))))
+        negative_compose (to_end f g e h ≫ s) (to_end f g e h)
+        ∙ ap negative_hom (compose_assoc (to_end f g e h) s (to_end f g e h) ∙ ap (λ z. to_end f g e h ≫ z) is ∙ compose_identity (to_end f g e h) ∙ sym (identity_compose (to_end f g e h))))
         ∙ sum_negative (identity W ≫ to_end f g e h)
 
     retraction : FactorsBefore (from_other f g e h) rest
@@ -42,8 +42,8 @@ module _ {q : Gf} (A : BoundQuiver) {L E M : Rep q A.quiver} (f : Hom L E) (g : 
     other_rest =
         compose_sum (from_other f g e h) (identity W) (negative_hom (to_end f g e h ≫ s))
         ∙ ap (λ z. from_other f g e h ≫ identity W ⊕ z) (compose_negative (from_other f g e h) (to_end f g e h ≫ s)
-            ∙ ap negative_hom (sym (compose_assoc (from_other f g e h) (to_end f g e h) s) ∙ ap (λ z. z ≫ s) (other_end f g e h) ∙ zero_compose Y s)
-            ∙ sym (sum_zero (negative_hom (zero_hom Y W))) ∙ negative_add_hom (zero_hom Y W))
+        ∙ ap negative_hom (sym (compose_assoc (from_other f g e h) (to_end f g e h) s) ∙ ap (λ z. z ≫ s) (other_end f g e h) ∙ zero_compose Y s)
+        ∙ sym (sum_zero (negative_hom (zero_hom Y W))) ∙ negative_add_hom (zero_hom Y W))
         ∙ sum_zero (from_other f g e h ≫ identity W) ∙ compose_identity (from_other f g e h)
 
     retracts : from_other f g e h ≫ retraction.factor ≡ identity Y
@@ -63,7 +63,7 @@ module _ {q : Gf} (A : BoundQuiver) {L E M : Rep q A.quiver} (f : Hom L E) (g : 
     not_nilpotent : (n : Hom L L) (p : Hom E E) → n ≫ f ≡ f ≫ p → p ≫ g ≡ g → IsNilpotent n → ⊥
     not_nilpotent n p s fixes z =
         let m = through_cokernel f g e.onto e.exact (power p z.exponent) (
-              sym (power-shift n p f s z.exponent) ∙ ap (λ y. y ≫ f) z.vanishes ∙ zero_compose L f) in
+        sym (power-shift n p f s z.exponent) ∙ ap (λ y. y ≫ f) z.vanishes ∙ zero_compose L f) in
         not_split (record {
           section = m.factor;
           is = epi_cancels g e.onto (m.factor ≫ g) (identity M) (

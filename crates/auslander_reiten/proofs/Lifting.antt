@@ -1,7 +1,7 @@
 -- Lifting along the right end: the criterion by the functional, and that each homomorphism lifts or is a split epimorphism.
 use Rattle.std.proofs.Common.{ℕ, ◌≡◌, ◌⊎◌, inl, inr, sym, ap, ap₂, ◌∙◌}
 use Rattle.linear_algebra.specs.Field.{Gf}
-use Rattle.linear_algebra.specs.Matrix.{Mat, Row, zeros, one, ◌⊞◌, ◌·◌}
+use Rattle.linear_algebra.specs.Matrix.{Row, zeros, ◌⊞◌, ◌·◌}
 use Rattle.linear_algebra.specs.Rank.{IsInSpan}
 use Rattle.linear_algebra.proofs.MatrixLaws.{mul_assoc_mat, mul_add_mat, zeros_mul, add_zeros}
 use Rattle.linear_algebra.proofs.Solving.{zeros_not_one, injective_right_inverse, right_inverse_cancels}
@@ -10,8 +10,8 @@ use Rattle.representations.specs.Rep.{Rep, IsMod}
 use Rattle.representations.specs.Hom.{Hom, ◌≫◌, ◌⊕◌, identity, zero_hom, negative_hom}
 use Rattle.representations.specs.Module.{IsMono, IsEpi, IsExact, IsIso, IsNilpotent, IsSplitEpi}
 use Rattle.representations.specs.Factoring.{FactorsBefore}
-use Rattle.representations.specs.Sum.{sum_rep, into_first, into_second, onto_first, onto_second, from_sum, into_sum}
-use Rattle.representations.proofs.Homs.{compose_assoc, compose_identity, identity_compose, compose_zero, zero_compose, compose_sum, compose_negative, sum_negative, compose-at, sum-at, same-at}
+use Rattle.representations.specs.Sum.{into_first, into_second, onto_first, onto_second, from_sum, into_sum}
+use Rattle.representations.proofs.Homs.{compose_assoc, compose_identity, compose_zero, zero_compose, compose_sum, compose_negative, sum_negative, compose-at, sum-at, same-at}
 use Rattle.representations.proofs.Kernels.{IsExact-zero, through_kernel}
 use Rattle.representations.proofs.Sums.{first_first, first_second, from_sum_by_parts, into_sum_by_parts, into_sum_unique, into_sum_first, into_sum_second}
 use Rattle.projectives.specs.Words.{projective}

@@ -1,23 +1,22 @@
 -- Minimal presentations by projective modules: lifting through them, factoring through the cokernel, and that what they cover is not projective.
-use Rattle.std.proofs.Common.{ℕ, zero, ◌≡◌, sym, ap, ◌∙◌, arith, subst}
+use Rattle.std.proofs.Common.{ℕ, ◌≡◌, sym, ap, ◌∙◌, arith, subst}
 use Rattle.linear_algebra.specs.Field.{Gf}
-use Rattle.linear_algebra.specs.Matrix.{zeros, ◌·◌}
+use Rattle.linear_algebra.specs.Matrix.{◌·◌}
 use Rattle.linear_algebra.proofs.MatrixLaws.{mul_assoc_mat, mul_zeros, mul_one_mat}
 use Rattle.representations.specs.Quiver.{Quiver, BoundQuiver}
 use Rattle.representations.specs.Rep.{Rep, IsMod}
-use Rattle.representations.specs.Hom.{Hom, ◌≫◌, identity, zero_hom, power}
-use Rattle.representations.specs.Module.{IsExact, IsIso, IsNilpotent, IsSplitEpi, IsSplitMono, IsZero}
+use Rattle.representations.specs.Hom.{Hom, ◌≫◌, identity, zero_hom}
+use Rattle.representations.specs.Module.{IsExact, IsIso, IsNilpotent, IsZero}
 use Rattle.representations.specs.Radical.{IsInRadical}
 use Rattle.representations.specs.Factoring.{FactorsAfter}
 use Rattle.representations.proofs.Homs.{compose_assoc, compose_identity, zero_compose, same-at, zero_hom-at, compose-at, identity-at}
-use Rattle.representations.proofs.Kernels.{IsExact-zero, complex_zero, through_cokernel}
+use Rattle.representations.proofs.Kernels.{IsExact-zero, through_cokernel}
 use Rattle.representations.proofs.Radical.{into_radical_nilpotent, nakayama_zero, radical-hom}
 use Rattle.projectives.specs.Words.{Words, IsWordBasis}
 use Rattle.projectives.specs.Families.{projectives, generator_of}
 use Rattle.projectives.specs.Covers.{KernelInRadical}
-use Rattle.projectives.specs.CanonicalCover.{vertex_in}
 use Rattle.projectives.specs.Resolutions.{ProjectiveSequence, IsMinimalResolution}
-use Rattle.projectives.proofs.Families.{projectives_mod, lift}
+use Rattle.projectives.proofs.Families.{lift}
 use Rattle.projectives.proofs.CoverUnique.{over_cover}
 use Rattle.auslander_reiten.specs.Presentation.{IsMinimalPresentation}
 use Rattle.auslander_reiten.proofs.Chains.{zero_on_rows}

@@ -6,7 +6,7 @@ use Rattle.linear_algebra.specs.Rank.{IsInSpan}
 use Rattle.linear_algebra.proofs.MatrixLaws.{mul_assoc_mat, mul_add_mat, add_mul_mat, mul_zeros, zeros_mul, mul_one_mat}
 use Rattle.representations.specs.Quiver.{Quiver}
 use Rattle.representations.specs.Rep.{Rep}
-use Rattle.representations.specs.Hom.{Hom, ◌≫◌, ◌⊕◌, identity, zero_hom, negative_hom}
+use Rattle.representations.specs.Hom.{Hom, ◌≫◌, ◌⊕◌, zero_hom, negative_hom}
 use Rattle.representations.specs.Module.{IsMono, IsExact}
 use Rattle.representations.specs.Factoring.{FactorsAfter}
 use Rattle.representations.specs.Submodule.{quotient_rep, projection}
@@ -15,7 +15,7 @@ use Rattle.representations.specs.Sum.{sum_rep, into_first, into_second, onto_fir
 use Rattle.representations.proofs.Homs.{compose_assoc, identity_compose, compose_zero, compose_sum, sum_compose, negative_compose, sum_zero, compose-at, sum-at, same-at, identity-at, zero_hom-at}
 use Rattle.representations.proofs.Submodules.{projection_epi}
 use Rattle.representations.proofs.Kernels.{IsExact-zero, cokernel_exact, cokernel_universal}
-use Rattle.representations.proofs.Sums.{first_first, second_second, second_first, whole_sum, first_from_sum, second_from_sum, from_sum_by_parts, into_sum_by_parts, into_sum_first, into_sum_second}
+use Rattle.representations.proofs.Sums.{second_second, second_first, whole_sum, first_from_sum, second_from_sum, from_sum_by_parts, into_sum_by_parts, into_sum_first}
 use Rattle.auslander_reiten.specs.AlmostSplit.{IsShortExact}
 use Rattle.auslander_reiten.proofs.Chains.{zero_on_rows, equal_of_difference}
 
@@ -103,12 +103,12 @@ module _ {q : Gf} {Q : Quiver} {L E M Y : Rep q Q} (f : Hom L E) (g : Hom E M) (
     by = s.by · h.at w ⊞ z · (onto_second E Y).at w;
     is = add_mul_mat (s.by · h.at w) (z · (onto_second E Y).at w) (from_other.at w)
         ∙ ap (λ y. y ⊞ z · (onto_second E Y).at w · from_other.at w) (
-            mul_assoc_mat s.by (h.at w) (from_other.at w) ∙ ap (λ y. s.by · y) (sym (compose-at h from_other w) ∙ sym (same-at square w) ∙ compose-at f from_middle w)
-            ∙ sym (mul_assoc_mat s.by (f.at w) (from_middle.at w)) ∙ ap (λ y. y · from_middle.at w) s.is)
+        mul_assoc_mat s.by (h.at w) (from_other.at w) ∙ ap (λ y. s.by · y) (sym (compose-at h from_other w) ∙ sym (same-at square w) ∙ compose-at f from_middle w)
+        ∙ sym (mul_assoc_mat s.by (f.at w) (from_middle.at w)) ∙ ap (λ y. y · from_middle.at w) s.is)
         ∙ ap₂ (λ a b. a ⊞ b) (mul_assoc_mat z ((onto_first E Y).at w) (from_middle.at w)) (mul_assoc_mat z ((onto_second E Y).at w) (from_other.at w))
         ∙ sym (mul_add_mat z ((onto_first E Y).at w · from_middle.at w) ((onto_second E Y).at w · from_other.at w))
         ∙ ap (λ y. z · y) (sym (ap₂ (λ a b. a ⊞ b) (compose-at (onto_first E Y) from_middle w) (compose-at (onto_second E Y) from_other w))
-            ∙ sym (sum-at (onto_first E Y ≫ from_middle) (onto_second E Y ≫ from_other) w) ∙ sym (same-at onto_by_parts w));
+        ∙ sym (sum-at (onto_first E Y ≫ from_middle) (onto_second E Y ≫ from_other) w) ∙ sym (same-at onto_by_parts w));
   }
 
   pub other_exact : IsExact from_other to_end
@@ -117,6 +117,6 @@ module _ {q : Gf} {Q : Quiver} {L E M Y : Rep q Q} (f : Hom L E) (g : Hom E M) (
     exact = λ w x c.
         let s = projection_epi (cokernel difference) w x in
         subst (IsInSpan (from_other.at w)) s.is (from_both w s.by (e.exact.exact w (s.by · (onto_first E Y).at w) (
-            mul_assoc_mat s.by ((onto_first E Y).at w) (g.at w) ∙ ap (λ z. s.by · z) (sym (compose-at (onto_first E Y) g w) ∙ sym (same-at onto_end_first w) ∙ compose-at onto to_end w)
-            ∙ sym (mul_assoc_mat s.by (onto.at w) (to_end.at w)) ∙ ap (λ z. z · to_end.at w) s.is ∙ c)));
+        mul_assoc_mat s.by ((onto_first E Y).at w) (g.at w) ∙ ap (λ z. s.by · z) (sym (compose-at (onto_first E Y) g w) ∙ sym (same-at onto_end_first w) ∙ compose-at onto to_end w)
+        ∙ sym (mul_assoc_mat s.by (onto.at w) (to_end.at w)) ∙ ap (λ z. z · to_end.at w) s.is ∙ c)));
   }

@@ -2,7 +2,7 @@
 -- identity; it comes from one on Hom (P, M), where P covers M.
 use Rattle.std.proofs.Common.{ℕ, zero, suc, ◌+◌, ◌≤◌, ◌≡◌, ◌⊎◌, inl, inr, sym, ap, ap₂, ◌∙◌, arith, subst}
 use Rattle.linear_algebra.specs.Field.{Gf}
-use Rattle.linear_algebra.specs.Matrix.{Mat, Row, Column, zeros, one, ◌⊞◌, ◌⊙◌, ◌·◌, stack}
+use Rattle.linear_algebra.specs.Matrix.{Mat, Row, zeros, one, ◌⊞◌, ◌·◌, stack}
 use Rattle.linear_algebra.specs.Rank.{IsInSpan, IsInColumnSpan, HasRightInverse, IsSeparate}
 use Rattle.linear_algebra.specs.LinearMaps.{IsLinear, matrix_of}
 use Rattle.linear_algebra.proofs.MatrixLaws.{mul_assoc_mat, add_mul_mat, mul_add_mat, scale_mul, zero_scale, mul_zeros, zeros_mul}
@@ -14,16 +14,14 @@ use Rattle.linear_algebra.proofs.Steinitz.{steinitz}
 use Rattle.linear_algebra.proofs.Subspaces.{extended}
 use Rattle.linear_algebra.proofs.Solving.{solve_or, factors_through, zeros_not_one}
 use Rattle.representations.specs.Quiver.{Quiver, BoundQuiver}
-use Rattle.representations.specs.Rep.{Rep, IsMod}
+use Rattle.representations.specs.Rep.{Rep}
 use Rattle.representations.specs.Hom.{Hom, ◌≫◌, identity, zero_hom}
 use Rattle.representations.specs.Module.{IsIso, IsNilpotent, IsEpi}
 use Rattle.representations.specs.HomSpace.{HomBasis}
 use Rattle.representations.proofs.Homs.{compose_identity, compose_zero, zero_multiple, power-zero, power-suc}
 use Rattle.representations.proofs.Factoring.{epi_cancels}
 use Rattle.representations.proofs.HomSpace.{hom_basis, coordinates, hom-coordinates, coordinates-hom, coordinates-sum, coordinates-multiple, hom_sum, hom_scale, compose_linear_right}
-use Rattle.projectives.specs.Families.{projectives}
 use Rattle.projectives.specs.TwoSided.{TwoSided}
-use Rattle.projectives.specs.Injective.{injectives}
 use Rattle.projectives.specs.Pairing.{IsFunctional, pairing, IsPairingAfter}
 use Rattle.projectives.proofs.Pairing.{perfect_after}
 use Rattle.local_modules.specs.Local.{IsLocal}
@@ -139,9 +137,9 @@ module _ {q : Gf} {Q : Quiver} {M : Rep q Q} (L : IsLocal M) where
     unfolding composed
     zero_row x e =
         ap (λ z. z · separate.functional) (sym (coordinates-hom ends x) ∙ ap (coordinates ends) (epi_cancels c onto (ends.hom x) (zero_hom M M) (
-            sym (hom-coordinates homs (c ≫ ends.hom x)) ∙ ap homs.hom (e ∙ sym (zero_scale (coordinates homs (zero_hom P M))))
-            ∙ hom_scale homs 0 (coordinates homs (zero_hom P M)) ∙ zero_multiple (homs.hom (coordinates homs (zero_hom P M))) ∙ sym (compose_zero c M))
-            ∙ sym (zero_multiple (zero_hom M M))) ∙ coordinates-multiple ends 0 (zero_hom M M) ∙ zero_scale (coordinates ends (zero_hom M M)))
+        sym (hom-coordinates homs (c ≫ ends.hom x)) ∙ ap homs.hom (e ∙ sym (zero_scale (coordinates homs (zero_hom P M))))
+        ∙ hom_scale homs 0 (coordinates homs (zero_hom P M)) ∙ zero_multiple (homs.hom (coordinates homs (zero_hom P M))) ∙ sym (compose_zero c M))
+        ∙ sym (zero_multiple (zero_hom M M))) ∙ coordinates-multiple ends 0 (zero_hom M M) ∙ zero_scale (coordinates ends (zero_hom M M)))
         ∙ zeros_mul separate.functional
 
     column : IsInColumnSpan (matrix_of composed) separate.functional

@@ -1,9 +1,8 @@
 -- The translate and the transpose exist in canonical form, which is unique; their sizes.
-use Rattle.std.proofs.Common.{ℕ, ◌+◌, ◌≡◌, sym, ap, ◌∙◌, arith, List, length}
+use Rattle.std.proofs.Common.{ℕ, ◌+◌, ◌≡◌, sym, ap, ◌∙◌, List, length}
 use Rattle.linear_algebra.specs.Field.{Gf}
 use Rattle.linear_algebra.specs.Matrix.{Row, zeros, ◌·◌}
 use Rattle.linear_algebra.specs.Rank.{IsInSpan}
-use Rattle.linear_algebra.specs.RowForm.{IsCoReduced}
 use Rattle.linear_algebra.proofs.MatrixLaws.{mul_assoc_mat, mul_zeros}
 use Rattle.linear_algebra.proofs.Dimension.{rank}
 use Rattle.linear_algebra.proofs.RowFormUnique.{row_form_unique}
@@ -27,7 +26,6 @@ use Rattle.projectives.specs.ReducedSubmodule.{reduced_kernel}
 use Rattle.projectives.specs.CanonicalCover.{vertex_in}
 use Rattle.projectives.proofs.Families.{projectives_mod}
 use Rattle.projectives.proofs.Nakayama.{injectives_mod}
-use Rattle.auslander_reiten.specs.Presentation.{IsMinimalPresentation}
 use Rattle.auslander_reiten.specs.ReducedCokernel.{reduced_cokernel}
 use Rattle.auslander_reiten.specs.Translates.{IsKernel, IsCokernel, IsReduced, IsCoReducedProjection, IsTranslate, IsTranspose, IsInverseTranslate}
 use Rattle.auslander_reiten.proofs.AlmostSplitSequences.{kernel_is_reduced, kernel_is_kernel, resolution, minimal_presentation}
@@ -105,11 +103,18 @@ module _ {q : Gf} {A : BoundQuiver} (T : TwoSided q A) (X : Rep q A.quiver) (M :
       let R = resolution (swap T) (dual X) (IsMod-dual A X M) in
       let k = length (vertices 1) in let v = vertex_in (vertices 1) in let h = length (vertices 0) in let u = vertex_in (vertices 0) in
       let t = transpose_exists (swap T) k v h u (R.differential 1) in (
-        k, v, h, u, R.differential 1, R.differential 0, t.0, t.1,
+        k,
+        v,
+        h,
+        u,
+        R.differential 1,
+        R.differential 0,
+        t.0,
+        t.1,
         record { presentation = minimal_presentation (swap T) (dual X) (IsMod-dual A X M); transpose = t.2 },
         t.3,
       )
 
-  pub inverse_translate_module : (k : ℕ) (v : ℕ → ℕ) (h : ℕ) (u : ℕ → ℕ) (d : Hom (projectives (other T) k v) (projectives (other T) h u)) (c : Hom (projectives (other T) h u) (dual X))
-      {N : Rep q A.quiver} (p : Hom (projectives T.words k v) N) → IsInverseTranslate T k v h u X d c p → IsMod A N
-  inverse_translate_module k v h u d c p t = IsMod-epi A p t.transpose.onto (projectives_mod A T.words T.basis k v)
+pub inverse_translate_module : {q : Gf} {A : BoundQuiver} (T : TwoSided q A) (X : Rep q A.quiver) (k : ℕ) (v : ℕ → ℕ) (h : ℕ) (u : ℕ → ℕ) (d : Hom (projectives (other T) k v) (projectives (other T) h u)) (c : Hom (projectives (other T) h u) (dual X))
+    {N : Rep q A.quiver} (p : Hom (projectives T.words k v) N) → IsInverseTranslate T k v h u X d c p → IsMod A N
+inverse_translate_module {A = A} T X k v h u d c p t = IsMod-epi A p t.transpose.onto (projectives_mod A T.words T.basis k v)

@@ -1,5 +1,5 @@
 -- Almost split sequences. (Assem, Simson, Skowroński, volume 1, chapter IV, 1.)
-use Rattle.std.specs.Prelude.{◌≡◌, ◌⊎◌}
+use Rattle.std.specs.Prelude.{◌≡◌}
 use Rattle.linear_algebra.specs.Field.{Gf}
 use Rattle.representations.specs.Quiver.{Quiver, BoundQuiver}
 use Rattle.representations.specs.Rep.{Rep, IsMod}
@@ -31,3 +31,13 @@ pub record IsAlmostSplit {q : Gf} (A : BoundQuiver) {L E M : Rep q A.quiver} (f 
   pub right_local : IsLocal M
   pub lifts : (X : Rep q A.quiver) → IsMod A X → (h : Hom X M) → (IsSplitEpi h → ⊥) → Lifts g h
   pub extends : (Y : Rep q A.quiver) → IsMod A Y → (h : Hom L Y) → (IsSplitMono h → ⊥) → Extends f h
+
+-- An almost split sequence of modules that ends in M.
+pub record AlmostSplitSequence {q : Gf} (A : BoundQuiver) (M : Rep q A.quiver) : Type 0 where
+  pub left_end : Rep q A.quiver
+  pub middle_term : Rep q A.quiver
+  pub left_module : IsMod A left_end
+  pub middle_module : IsMod A middle_term
+  pub f : Hom left_end middle_term
+  pub g : Hom middle_term M
+  pub almost_split : IsAlmostSplit A f g
