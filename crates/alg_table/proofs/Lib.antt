@@ -22,3 +22,5 @@ pub mod IdealActs
 pub mod IdealSteps
 pub mod Congruence
 pub mod ClausesSuffice
+pub mod TermLists
+pub mod Merging

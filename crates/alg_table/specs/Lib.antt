@@ -9,3 +9,5 @@ pub mod Rules
 pub mod Derivations
 pub mod Reduction
 pub mod BasisClauses
+pub mod ElementTerms
+pub mod Occurring

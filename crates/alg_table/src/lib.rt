@@ -13,6 +13,7 @@ mod closure;
 pub mod laws;
 mod products;
 mod rules;
+mod sums;
 mod table;
 
 pub use closing::close_rows;
