@@ -1,9 +1,9 @@
 -- The action of arrows by reduction is linear; how it acts on words.
-use Rattle.std.proofs.Common.{ℕ, ◌≡◌, ◌<◌, inl, inr, List, [], ◌∷◌, ◌++◌, Bool, true, false, if◌then◌else◌, eqb, ltb, refl, sym, ap, ap₂, ◌∙◌, subst}
+use Rattle.std.proofs.Common.{ℕ, ◌≡◌, ◌≢◌, ◌<◌, ◌⊎◌, inl, inr, List, [], ◌∷◌, ◌++◌, Bool, true, false, if◌then◌else◌, eqb, ltb, refl, sym, ap, ap₂, ◌∙◌, subst}
 use Rattle.std.specs.Prelude.{Contains}
-use Rattle.std.proofs.lemmas.Bool.{cond-true, eq-eqb}
+use Rattle.std.proofs.lemmas.Bool.{cond-true, cond-false, eq-eqb}
 use Rattle.linear_algebra.specs.Field.{Gf, order, add, mul}
-use Rattle.linear_algebra.specs.FieldLaws.{add_zero, zero_add, add_zero_zero, add_mul, mul_add, mul_zero, zero_mul, mul_assoc, mul_left_comm, one_mul}
+use Rattle.linear_algebra.specs.FieldLaws.{add_zero, zero_add, add_zero_zero, add_mul, mul_add, mul_zero, zero_mul, mul_assoc, mul_left_comm, one_mul, mul_below, order-pos}
 use Rattle.quiver_paths.specs.declared.Path.{Path}
 use Rattle.quiver_paths.specs.Path.{path_length, concat, arrow_path}
 use Rattle.quiver_paths.specs.PathOrder.{IsSmaller, IsAscending}

@@ -24,3 +24,5 @@ pub mod Congruence
 pub mod ClausesSuffice
 pub mod TermLists
 pub mod Merging
+pub mod TermProducts
+pub mod Derived

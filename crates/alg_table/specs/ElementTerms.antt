@@ -37,26 +37,26 @@ pub record IsMerging (h : Header) (c : ℕ) (total : Path → ℕ) (done first s
   pub value : (p : Path) → add h.field (sum_of_terms h.field h.bound done p)
       (add h.field (sum_of_terms h.field h.bound first p) (mul h.field c (sum_of_terms h.field h.bound second p))) ≡ total p
 
--- an arrow before a term, and behind it
-abbrev pub term_behind : Header → ℕ → Term → Term
-term_behind h a term = record { coef = term.coef; path = concat (arrow_path h.quiver a) term.path }
+-- a path before a term, and behind it
+abbrev pub term_behind : Path → Term → Term
+term_behind u term = record { coef = term.coef; path = concat u term.path }
 
-abbrev pub term_before : Header → ℕ → Term → Term
-term_before h a term = record { coef = term.coef; path = concat term.path (arrow_path h.quiver a) }
+abbrev pub term_before : Path → Term → Term
+term_before u term = record { coef = term.coef; path = concat term.path u }
 
--- the term meets the arrow, and is short enough to be kept with it
-abbrev pub goes_behind : Header → ℕ → Term → Bool
-goes_behind h a term = (target h.quiver a == term.path.start) && nat_lt (path_length term.path + 1) h.bound
+-- the term meets the path, and is shorter than t with it
+abbrev pub goes_behind : ℕ → Path → Term → Bool
+goes_behind t u term = (u.end == term.path.start) && nat_lt (path_length u + path_length term.path) t
 
-abbrev pub goes_before : Header → ℕ → Term → Bool
-goes_before h a term = (term.path.end == source h.quiver a) && nat_lt (path_length term.path + 1) h.bound
+abbrev pub goes_before : ℕ → Path → Term → Bool
+goes_before t u term = (term.path.end == u.start) && nat_lt (path_length term.path + path_length u) t
 
--- the terms of an arrow times an element, and of an element times an arrow
-abbrev pub terms_behind : Header → ℕ → List Term → List Term
-terms_behind h a terms = map (term_behind h a) (filter (goes_behind h a) terms)
+-- the terms of a path times an element, and of an element times a path
+abbrev pub terms_behind : ℕ → Path → List Term → List Term
+terms_behind t u terms = map (term_behind u) (filter (goes_behind t u) terms)
 
-abbrev pub terms_before : Header → ℕ → List Term → List Term
-terms_before h a terms = map (term_before h a) (filter (goes_before h a) terms)
+abbrev pub terms_before : ℕ → Path → List Term → List Term
+terms_before t u terms = map (term_before u) (filter (goes_before t u) terms)
 
 -- the elements, in their order, are those of the list
 pub record AreTermsOfEach (h : Header) (elements : List Element) (xs : List (Path → ℕ)) : Type 0 where
@@ -74,3 +74,8 @@ rule_terms h rule = record { coef = 1; path = rule.tip } ∷ map (negative h.fie
 pub record IsJoined (q : Gf) (c : ℕ) (x y : Term) (before after : List Term) : Type 0 where
   pub zero_is : add q x.coef (mul q c y.coef) ≡ 0 → after ≡ before
   pub nonzero_is : add q x.coef (mul q c y.coef) ≢ 0 → after ≡ before ++ record { coef = add q x.coef (mul q c y.coef); path = x.path } ∷ []
+
+-- the rule's tip is shorter than the bound, and these are the terms of its tip less its tail
+pub record IsRuleOf (h : Header) (rule : Rule) (terms : List Term) : Type 0 where
+  pub short : path_length rule.tip < h.bound
+  pub same : terms ≡ rule_terms h rule

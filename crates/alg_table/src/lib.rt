@@ -8,14 +8,17 @@ use quiver_paths::{Path, Quiver};
 use seq::Seq;
 use std::alloc::AllocError;
 
+mod clauses;
 mod closing;
 mod closure;
+mod derivations;
 pub mod laws;
 mod products;
 mod rules;
 mod sums;
 mod table;
 
+pub use clauses::{rules_hold, steps_hold};
 pub use closing::close_rows;
 pub use rules::{BasisFault, Element, Rule, Step};
 pub use table::Table;
