@@ -149,3 +149,13 @@ pub numbered_terms : (h : Header) (elements : List Element) (j : ℕ) (e : Eleme
     → All (λ (x : Element). AreElementTerms h x.terms) elements → AreElementTerms h slice
 numbered_terms h elements j e slice n is terms all =
     subst (AreElementTerms h) (sym (terms ∙ ap (λ (x : Element). x.terms) is)) (all (j - 1) e (let a = n.from in let b = n.to in omega arith))
+
+-- there are as many elements as steps
+elements_behind-length : (h : Header) (earlier : List (Path → ℕ)) (steps : List Step) → length (elements_behind h earlier steps) ≡ length earlier + length steps
+unfolding elements_behind
+elements_behind-length h earlier [] = omega arith
+elements_behind-length h earlier (s ∷ steps) =
+    elements_behind-length h (earlier ++ step_element h earlier s ∷ []) steps ∙ (let k = length-append earlier (step_element h earlier s ∷ []) in omega arith)
+
+pub count_of_elements : (h : Header) (elements : List Element) (steps : List Step) → AreTermsOfEach h elements (step_elements h steps) → length elements ≡ length steps
+count_of_elements h elements steps each = let k = each.count in let l = elements_behind-length h [] steps in omega arith

@@ -26,3 +26,4 @@ pub mod TermLists
 pub mod Merging
 pub mod TermProducts
 pub mod Derived
+pub mod DerivedRules

@@ -102,11 +102,20 @@ fn is_rule_of(header: &Header, rule: &Rule, terms: &[Term]) -> bool
     ensures { MatchBool result (IsRuleOf header.now rule.now terms.now) (¬ IsRuleOf header.now rule.now terms.now) }
 {
     let tail = rule.tail.terms.as_slice();
-    if rule.tip.arrows.len() >= header.bound as usize || terms.len() != tail.len() + 1 {
+    if rule.tip.arrows.len() >= header.bound as usize {
         return false;
     }
-    let first = &terms[0];
-    first.coef == 1 && first.path == rule.tip && are_negatives(header.field, tail, &terms[1..])
+    if terms.len() != tail.len() + 1 || !is_tip_term(&terms[0], rule) {
+        return false;
+    }
+    are_negatives(header.field, tail, &terms[1..])
+}
+
+/// Whether the term is the rule's tip with the coefficient 1.
+fn is_tip_term(term: &Term, rule: &Rule) -> bool
+    ensures { MatchBool result (term.now ≡ record { coef = 1; path = rule.now.tip }) (¬ (term.now ≡ record { coef = 1; path = rule.now.tip })) }
+{
+    term.coef == 1 && term.path == rule.tip
 }
 
 /// Whether the terms are the negatives of those of the tail.
