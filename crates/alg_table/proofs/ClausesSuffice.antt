@@ -64,7 +64,7 @@ term_at q t (a ∷ terms) p n = elim (cases_eq (path_element t a.path p) 0) [
 ]
 
 -- a factor of the whole length is the path
-whole_factor : (Q : Quiver) (f p : Path) (i : IsFactor Q f p) → path_length p ≤ path_length f → f ≡ p
+pub whole_factor : (Q : Quiver) (f p : Path) (i : IsFactor Q f p) → path_length p ≤ path_length f → f ≡ p
 whole_factor Q f p i l =
     let lengths = length-factor Q f p i in
     let before : i.before ≡ trivial_path i.before.start = trivial_from_length Q i.before i.before_is (omega (arith, lengths, l)) in

@@ -27,3 +27,5 @@ pub mod Merging
 pub mod TermProducts
 pub mod Derived
 pub mod DerivedRules
+pub mod TipPlaces
+pub mod TipFactors

@@ -14,12 +14,15 @@ mod closure;
 mod derivations;
 pub mod laws;
 mod products;
+mod reduced;
 mod rules;
 mod sums;
 mod table;
+mod tips;
 
 pub use clauses::{rules_hold, steps_hold};
 pub use closing::close_rows;
+pub use reduced::reduced_holds;
 pub use rules::{BasisFault, Element, Rule, Step};
 pub use table::Table;
 
