@@ -29,3 +29,4 @@ pub mod Derived
 pub mod DerivedRules
 pub mod TipPlaces
 pub mod TipFactors
+pub mod LocalWords

@@ -34,7 +34,7 @@ pub record FoundTip (rules : List Rule) (arrows : List ℕ) : Type 0 where
   pub behind : List ℕ
   pub stands : StandsIn rules rule arrows before behind
 
-found_at_end : (rules : List Rule) (arrows : List ℕ) → EndsInTip rules arrows → FoundTip rules arrows
+pub found_at_end : (rules : List Rule) (arrows : List ℕ) → EndsInTip rules arrows → FoundTip rules arrows
 found_at_end rules arrows e = record {
   rule = e.tip.rule;
   before = take e.place arrows;
@@ -144,7 +144,7 @@ drop_last : {X : Type 0} (xs : List X) (x : X) (ys : List X) → (zs : List X) �
 drop_last xs x [] = ([], x, refl)
 drop_last xs x (y ∷ ys) = let r = drop_last xs y ys in (x ∷ r.0, r.1, ap (λ l. x ∷ l) r.2)
 
-in_front : (rules : List Rule) (rule : Rule) (arrows before : List ℕ) (v : ℕ) (vs : List ℕ) → 0 < path_length rule.tip → StandsIn rules rule arrows before (v ∷ vs) → HasTip rules (take (length arrows - 1) arrows)
+pub in_front : (rules : List Rule) (rule : Rule) (arrows before : List ℕ) (v : ℕ) (vs : List ℕ) → 0 < path_length rule.tip → StandsIn rules rule arrows before (v ∷ vs) → HasTip rules (take (length arrows - 1) arrows)
 in_front rules rule arrows before v vs l s =
     let last = drop_last {X = ℕ} [] v vs in
     let inner : List ℕ = before ++ (rule.tip.arrows ++ last.0) in
@@ -166,23 +166,26 @@ no_other_if h rules p long front rest a m d f = by f.before.arrows f.behind.arro
     by (u ∷ us) [] eu ev w = rest (ends_from rules a (drop 1 p.arrows) us some (record { listed = m; whole = ap (drop 1) w }))
     by [] [] eu ev w = d (whole_factor h.quiver a.tip p f (let e = length-factor h.quiver a.tip p f in let x = ap length eu in let y = ap length ev in omega arith))
 
--- ---- tips that ascend
+-- ---- what ascends by its paths
 
-smaller_later : (rules : List Rule) → ((j : ℕ) (d : Rule) → j + 1 < length rules → IsSmaller (get_or rules j d).tip (get_or rules (j + 1) d).tip)
-    → (n i j : ℕ) (d : Rule) → j ≡ i + suc n → j < length rules → IsSmaller (get_or rules i d).tip (get_or rules j d).tip
-smaller_later rules step zero i j d e l = subst (λ k. IsSmaller (get_or rules i d).tip (get_or rules k d).tip) (let q : i + 1 ≡ j = omega arith in q) (step i d (omega arith))
-smaller_later rules step (suc n) i j d e l =
-    let next : IsSmaller (get_or rules (i + suc n) d).tip (get_or rules j d).tip =
-    subst (λ k. IsSmaller (get_or rules (i + suc n) d).tip (get_or rules k d).tip) (let q : i + suc n + 1 ≡ j = omega arith in q) (step (i + suc n) d (omega arith)) in
-    IsSmaller-trans _ _ _ (smaller_later rules step n i (i + suc n) d refl (omega arith)) next
+smaller_later : {X : Type 0} (f : X → Path) (xs : List X) → ((j : ℕ) (d : X) → j + 1 < length xs → IsSmaller (f (get_or xs j d)) (f (get_or xs (j + 1) d)))
+    → (n i j : ℕ) (d : X) → j ≡ i + suc n → j < length xs → IsSmaller (f (get_or xs i d)) (f (get_or xs j d))
+smaller_later f xs step zero i j d e l = subst (λ k. IsSmaller (f (get_or xs i d)) (f (get_or xs k d))) (let q : i + 1 ≡ j = omega arith in q) (step i d (omega arith))
+smaller_later f xs step (suc n) i j d e l =
+    let next : IsSmaller (f (get_or xs (i + suc n) d)) (f (get_or xs j d)) =
+    subst (λ k. IsSmaller (f (get_or xs (i + suc n) d)) (f (get_or xs k d))) (let q : i + suc n + 1 ≡ j = omega arith in q) (step (i + suc n) d (omega arith)) in
+    IsSmaller-trans _ _ _ (smaller_later f xs step n i (i + suc n) d refl (omega arith)) next
 
-pub ascend_from_steps : (rules : List Rule) → ((j : ℕ) (d : Rule) → j + 1 < length rules → IsSmaller (get_or rules j d).tip (get_or rules (j + 1) d).tip) → TipsAscend rules
-ascend_from_steps rules step i j d l g = smaller_later rules step (j - i - 1) i j d (omega arith) g
+-- each is smaller than the next
+pub ascend_from_steps : {X : Type 0} (f : X → Path) (xs : List X) → ((j : ℕ) (d : X) → j + 1 < length xs → IsSmaller (f (get_or xs j d)) (f (get_or xs (j + 1) d)))
+    → AllPairs (λ a b. IsSmaller (f a) (f b)) xs
+ascend_from_steps f xs step i j d l g = smaller_later f xs step (j - i - 1) i j d (omega arith) g
 
--- one tip and the next
-pub next_is_greater : (rules : List Rule) (n : ℕ) (x y : Rule) → TipsAscend rules → 0 < n → n < length rules → IsSmaller (get_or rules (n - 1) x).tip (get_or rules n y).tip
-next_is_greater rules n x y a z l =
-    subst (λ (r : Rule). IsSmaller r.tip (get_or rules n y).tip) (get_or_default rules (n - 1) y x (omega arith)) (a (n - 1) n y (omega arith) l)
+-- one and the next
+pub next_is_greater : {X : Type 0} (f : X → Path) (xs : List X) (n : ℕ) (x y : X) → AllPairs (λ a b. IsSmaller (f a) (f b)) xs → 0 < n → n < length xs
+    → IsSmaller (f (get_or xs (n - 1) x)) (f (get_or xs n y))
+next_is_greater f xs n x y a z l =
+    subst (λ r. IsSmaller (f r) (f (get_or xs n y))) (get_or_default xs (n - 1) y x (omega arith)) (a (n - 1) n y (omega arith) l)
 
 -- ---- as the code goes
 

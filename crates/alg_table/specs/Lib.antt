@@ -11,3 +11,4 @@ pub mod Reduction
 pub mod BasisClauses
 pub mod ElementTerms
 pub mod Occurring
+pub mod WordChecks

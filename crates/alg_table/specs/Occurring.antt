@@ -1,4 +1,4 @@
--- Tips among arrows, and words known by their starts and arrows.
+-- Tips among arrows.
 use Rattle.std.specs.Prelude.{ℕ, ◌≡◌, ◌<◌, ◌≤◌, List, ◌++◌, length, take, drop, Contains, All, AllPairs, ◌≢◌}
 use Rattle.std.specs.Ordering.{ordering_then, nat_cmp}
 use Rattle.std.specs.declared.cmp.Ordering.{Ordering}
@@ -49,10 +49,3 @@ pub record AreLongTips (h : Header) (rules : List Rule) : Type 0 where
 pub record IsReducedAmong (h : Header) (rules : List Rule) (rule : Rule) : Type 0 where
   pub tip : (a : Rule) → Contains rules a → a.tip ≢ rule.tip → IsFactor h.quiver a.tip rule.tip → ⊥
   pub tail : All (λ (a : Term). HasNoTip h rules a.path) rule.tail.terms
-
--- one of the words has this start and these arrows
-pub record IsWordAt (words : List Path) (start : ℕ) (arrows : List ℕ) : Type 0 where
-  pub word : Path
-  pub listed : Contains words word
-  pub starts : word.start ≡ start
-  pub same : word.arrows ≡ arrows
