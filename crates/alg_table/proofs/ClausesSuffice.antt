@@ -25,7 +25,7 @@ use Rattle.alg_table.specs.Ideals.{IsInIdeal, Congruent}
 use Rattle.alg_table.specs.Words.{IsShortPath, IsGreatestPath, IsTip, IsNormal, AreNormalWords, IsCoefficients, IsExpansion, HasOneExpansion, IsBasis}
 use Rattle.alg_table.specs.Allowed.{IsAllowed}
 use Rattle.alg_table.specs.Rules.{AreElementTerms, rule_element, IsMinimalTip, IsReducedRule, AreReducedRules}
-use Rattle.alg_table.specs.Derivations.{element_at, step_elements}
+use Rattle.alg_table.specs.Derivations.{element_at, step_elements, AreSteps}
 use Rattle.alg_table.specs.Reduction.{HasNoTip, FirstOccurrence, IsReduction}
 use Rattle.alg_table.specs.BasisClauses.{StepsHold, RuleHolds, RulesHold, ReducedHolds, WordsHold, ActionHolds, MeetsClauses, IsBasisClaim}
 use Rattle.alg_table.proofs.ElementLemmas.{path_element-self, path_element-other, path_element-below, path_element_support, combination-below, product-composite, product_support}
@@ -74,9 +74,33 @@ whole_factor Q f p i l =
     (behind ∙ ap trivial_path (sym i.meets_behind))
     ∙ ap (concat (trivial_path f.start)) (concat-trivial_right f) ∙ concat-trivial_left f)
 
+-- ---- where the steps and the rules hold
+
+module _ (h : Header) (steps : List Step) (rules : List Rule) (ok : IsAllowed h) (named : AreSteps h steps) (hold : RulesHold h steps rules) where
+  pub held_rule : (rule : Rule) → Contains rules rule → RuleHolds h steps rule
+  held_rule rule m = All-contains (RuleHolds h steps) rules rule hold m
+
+  -- each rule is in the ideal
+  pub rule_in_ideal : (rule : Rule) → Contains rules rule → IsInIdeal h (rule_element h rule)
+  rule_in_ideal rule m = IsInIdeal-same h (element_at (step_elements h steps) rule.step) (rule_element h rule) (held_rule rule m).derived (steps_are_members h ok steps named rule.step)
+
+  pub one_at_tip : (rule : Rule) → Contains rules rule → rule_element h rule rule.tip ≡ 1
+  one_at_tip rule m =
+      let r = held_rule rule m in
+      ap₂ (sub h.field) (path_element-self h.bound rule.tip r.short)
+      (sum_of_terms-outside h.field h.bound rule.tail.terms rule.tip (All-weaker (λ (a : Term). IsSmaller a.path rule.tip) (λ (a : Term). a.path ≡ rule.tip → ⊥)
+      (λ a s e. IsSmaller-irreflexive rule.tip (subst (λ x. IsSmaller x rule.tip) e s)) rule.tail.terms r.greater))
+      ∙ sub_zero h.field 1 (one-lt-order h.field)
+
+  -- a tip has two arrows or more
+  pub long_tip : (rule : Rule) → Contains rules rule → 2 ≤ path_length rule.tip
+  long_tip rule m = IsInIdeal-long h ok (rule_element h rule) (rule_in_ideal rule m) rule.tip (λ e. omega (arith, sym (one_at_tip rule m) ∙ e))
+
+-- ---- where all conditions hold
+
 module _ (h : Header) (words : List Path) (steps : List Step) (rules : List Rule) (ok : IsAllowed h) (claim : IsBasisClaim h words steps rules) (c : MeetsClauses h words steps rules) where
   pub rule_holds : (rule : Rule) → Contains rules rule → RuleHolds h steps rule
-  rule_holds rule m = All-contains (RuleHolds h steps) rules rule c.rule m
+  rule_holds = held_rule h steps rules ok c.step.named c.rule
 
   pub are_rules : AreRules h rules
   are_rules = record {
@@ -88,18 +112,13 @@ module _ (h : Header) (words : List Path) (steps : List Step) (rules : List Rule
 
   -- each rule is in the ideal
   pub rule_member : (rule : Rule) → Contains rules rule → IsInIdeal h (rule_element h rule)
-  rule_member rule m = IsInIdeal-same h (element_at (step_elements h steps) rule.step) (rule_element h rule) (rule_holds rule m).derived (steps_are_members h ok steps c.step.named rule.step)
+  rule_member = rule_in_ideal h steps rules ok c.step.named c.rule
 
   rule_at_tip : (rule : Rule) → Contains rules rule → rule_element h rule rule.tip ≡ 1
-  rule_at_tip rule m =
-      let r = rule_holds rule m in
-      ap₂ (sub h.field) (path_element-self h.bound rule.tip r.short)
-      (sum_of_terms-outside h.field h.bound rule.tail.terms rule.tip (All-weaker (λ (a : Term). IsSmaller a.path rule.tip) (λ (a : Term). a.path ≡ rule.tip → ⊥)
-      (λ a s e. IsSmaller-irreflexive rule.tip (subst (λ x. IsSmaller x rule.tip) e s)) rule.tail.terms r.greater))
-      ∙ sub_zero h.field 1 (one-lt-order h.field)
+  rule_at_tip = one_at_tip h steps rules ok c.step.named c.rule
 
   tip_long : (rule : Rule) → Contains rules rule → 2 ≤ path_length rule.tip
-  tip_long rule m = IsInIdeal-long h ok (rule_element h rule) (rule_member rule m) rule.tip (λ e. omega (arith, sym (rule_at_tip rule m) ∙ e))
+  tip_long = long_tip h steps rules ok c.step.named c.rule
 
   pub acted_on : AreActedOn h words rules c.action.becomes
   acted_on = record { are = are_rules; tips_long = tip_long; reduced = c.reduced; listed = c.word; reduction = c.action.reduction }

@@ -30,3 +30,4 @@ pub mod DerivedRules
 pub mod TipPlaces
 pub mod TipFactors
 pub mod LocalWords
+pub mod LongTips

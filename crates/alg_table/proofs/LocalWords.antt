@@ -132,9 +132,10 @@ module _ (h : Header) (words : List Path) (rules : List Rule) (ok : IsAllowed h)
         let g : IsGrown h words rules p = (placed p m).grown in
         let w : IsWordAt words p.start (take (path_length p - 1) p.arrows) = g.front (omega arith) in
         let same : w.word.arrows ≡ take k p.arrows = w.same ∙ ap (λ i. take i p.arrows) (let q : path_length p - 1 ≡ k = omega arith in q) in
-        let count : path_length w.word ≡ k = ap length same ∙ length-take-le k p.arrows (omega arith) in
-        (record { path = word_path p m; short = g.short (omega arith) },
-          no_tip_within p k e (g.ends (omega arith)) w.word (word_path w.word w.listed) (only_of_length k w.word count w.listed).1 same)
+        let count : path_length w.word ≡ k = ap length same ∙ length-take-le k p.arrows (omega arith) in (
+          record { path = word_path p m; short = g.short (omega arith) },
+          no_tip_within p k e (g.ends (omega arith)) w.word (word_path w.word w.listed) (only_of_length k w.word count w.listed).1 same,
+        )
 
     pub words_hold_from : IsAscending words → WordsHold h words rules
     words_hold_from ascending = record { ascending = ascending; all = λ p s n. all_of_length (path_length p) p refl s n; only = λ p m. only_of_length (path_length p) p refl m }

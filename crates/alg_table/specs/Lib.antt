@@ -12,3 +12,4 @@ pub mod BasisClauses
 pub mod ElementTerms
 pub mod Occurring
 pub mod WordChecks
+pub mod FirstClauses

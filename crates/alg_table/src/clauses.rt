@@ -48,7 +48,8 @@ fn names_earlier(header: &Header, earlier: usize, step: Step) -> bool
         Step::Right(number, arrow) => {
             is_number(earlier, number) && (arrow as usize) < header.quiver.arrows.len()
         }
-        Step::Add(number, _factor, other) => is_number(earlier, number) && is_number(earlier, other),
+        Step::Add(number, _factor, other) => is_number(earlier, number)
+            && is_number(earlier, other),
     }
 }
 

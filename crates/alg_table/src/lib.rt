@@ -12,6 +12,7 @@ mod clauses;
 mod closing;
 mod closure;
 mod derivations;
+mod first_clauses;
 pub mod laws;
 mod products;
 mod reduced;
@@ -23,6 +24,7 @@ mod words;
 
 pub use clauses::{rules_hold, steps_hold};
 pub use closing::close_rows;
+pub use first_clauses::first_fault;
 pub use reduced::reduced_holds;
 pub use rules::{BasisFault, Element, Rule, Step};
 pub use table::Table;

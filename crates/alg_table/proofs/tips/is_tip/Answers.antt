@@ -22,9 +22,10 @@ pub loop-low-preserved : goal.loop-low-preserved
 loop-low-preserved c = record {
   within = (let w = c.loop-low.invariant.within in omega arith);
   between = λ k d l e.
-      let old = c.loop-low.invariant.between k d l e in
-      (old.0,
+      let old = c.loop-low.invariant.between k d l e in (
+        old.0,
         tip-greater c.args.rules.now c.args.arrows.now _ k c.index-rules-middle.result d
             (record { ascending = c.requires; first_inside = (let w = c.loop-low.invariant.within in omega arith); second_inside = l; first = c.index-rules-middle.is; second = e })
-            (ap (λ xs. arrows_cmp xs c.args.arrows.now) (sym c.as_slice.ensures) ∙ sym c.compare_arrows.ensures ∙ c.in-Greater.is));
+            (ap (λ xs. arrows_cmp xs c.args.arrows.now) (sym c.as_slice.ensures) ∙ sym c.compare_arrows.ensures ∙ c.in-Greater.is),
+      );
 }

@@ -21,9 +21,10 @@ pub loop-low-preserved : goal.loop-low-preserved
 loop-low-preserved c = record {
   within = (let w = c.loop-low.invariant.within in omega arith);
   between = λ k d l s e.
-      let old = c.loop-low.invariant.between k d l s e in
-      (old.0,
+      let old = c.loop-low.invariant.between k d l s e in (
+        old.0,
         word-greater c.args.words.now c.args.start c.args.arrows.now _ k c.index-words-middle.result d
             (record { ascending = c.requires; first_inside = (let w = c.loop-low.invariant.within in omega arith); second_inside = l; first = c.index-words-middle.is; starts = s; same = e })
-            (sym c.compare_at.ensures ∙ c.in-Greater.is));
+            (sym c.compare_at.ensures ∙ c.in-Greater.is),
+      );
 }
