@@ -25,7 +25,7 @@ use Rattle.alg_table.specs.Ideals.{IsInIdeal, Congruent}
 use Rattle.alg_table.specs.Words.{IsShortPath, IsGreatestPath, IsTip, IsNormal, AreNormalWords, IsCoefficients, IsExpansion, HasOneExpansion, IsBasis}
 use Rattle.alg_table.specs.Allowed.{IsAllowed}
 use Rattle.alg_table.specs.Rules.{AreElementTerms, rule_element, IsMinimalTip, IsReducedRule, AreReducedRules}
-use Rattle.alg_table.specs.Derivations.{element_at, step_elements}
+use Rattle.alg_table.specs.Derivations.{element_at, step_elements, AreSteps}
 use Rattle.alg_table.specs.Reduction.{HasNoTip, FirstOccurrence, IsReduction}
 use Rattle.alg_table.specs.BasisClauses.{StepsHold, RuleHolds, RulesHold, ReducedHolds, WordsHold, ActionHolds, MeetsClauses, IsBasisClaim}
 use Rattle.alg_table.proofs.ElementLemmas.{path_element-self, path_element-other, path_element-below, path_element_support, combination-below, product-composite, product_support}
@@ -84,6 +84,36 @@ rule_greatest h rule short greater = record {
   ];
 }
 
+-- a factor of the whole length is the path
+pub whole_factor : (Q : Quiver) (f p : Path) (i : IsFactor Q f p) → path_length p ≤ path_length f → f ≡ p
+whole_factor Q f p i l =
+    let lengths = length-factor Q f p i in
+    let before : i.before ≡ trivial_path i.before.start = trivial_from_length Q i.before i.before_is (omega (arith, lengths, l)) in
+    let behind : i.behind ≡ trivial_path i.behind.start = trivial_from_length Q i.behind i.behind_is (omega (arith, lengths, l)) in
+    sym (i.whole ∙ ap₂ (λ u v. concat u (concat f v))
+    (before ∙ ap trivial_path (ap (λ (x : Path). x.end) (sym before) ∙ i.meets_before))
+    (behind ∙ ap trivial_path (sym i.meets_behind))
+    ∙ ap (concat (trivial_path f.start)) (concat-trivial_right f) ∙ concat-trivial_left f)
+
+-- ---- where the steps and the rules hold
+
+module _ (h : Header) (steps : List Step) (rules : List Rule) (ok : IsAllowed h) (named : AreSteps h steps) (hold : RulesHold h steps rules) where
+  pub held_rule : (rule : Rule) → Contains rules rule → RuleHolds h steps rule
+  held_rule rule m = All-contains (RuleHolds h steps) rules rule hold m
+
+  -- each rule is in the ideal
+  pub rule_in_ideal : (rule : Rule) → Contains rules rule → IsInIdeal h (rule_element h rule)
+  rule_in_ideal rule m = IsInIdeal-same h (element_at (step_elements h steps) rule.step) (rule_element h rule) (held_rule rule m).derived (steps_are_members h ok steps named rule.step)
+
+  pub one_at_tip : (rule : Rule) → Contains rules rule → rule_element h rule rule.tip ≡ 1
+  one_at_tip rule m = rule_at_tip h rule (held_rule rule m).short (held_rule rule m).greater
+
+  -- a tip has two arrows or more
+  pub long_tip : (rule : Rule) → Contains rules rule → 2 ≤ path_length rule.tip
+  long_tip rule m = IsInIdeal-long h ok (rule_element h rule) (rule_in_ideal rule m) rule.tip (λ e. omega (arith, sym (one_at_tip rule m) ∙ e))
+
+-- ---- where all conditions hold
+
 -- Rules in the ideal, by which words are judged: tips are greater than tails, and the last three clauses hold.
 pub record AreSound (h : Header) (words : List Path) (rules : List Rule) : Type 0 where
   pub are : AreRules h rules
@@ -102,15 +132,12 @@ are_sound h words steps rules ok claim c = record {
     tails = claim.tails;
     greater = All-weaker (RuleHolds h steps) (λ (x : Rule). All (λ (a : Term). IsSmaller a.path x.tip) x.tail.terms) (λ x r. r.greater) rules c.rule;
   };
-  short = λ rule m. (holds rule m).short;
-  member = λ rule m. IsInIdeal-same h (element_at (step_elements h steps) rule.step) (rule_element h rule) (holds rule m).derived (steps_are_members h ok steps c.step.named rule.step);
+  short = λ rule m. (held_rule h steps rules ok c.step.named c.rule rule m).short;
+  member = rule_in_ideal h steps rules ok c.step.named c.rule;
   reduced = c.reduced;
   word = c.word;
   action = c.action;
 }
-  where
-    holds : (rule : Rule) → Contains rules rule → RuleHolds h steps rule
-    holds rule m = All-contains (RuleHolds h steps) rules rule c.rule m
 
 module _ (h : Header) (words : List Path) (rules : List Rule) (c : AreSound h words rules) where
   abbrev ok : IsAllowed h

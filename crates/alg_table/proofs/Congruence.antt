@@ -49,7 +49,7 @@ product-sub q t u x y v p =
     minus a = sym (neg_mul q 1 a ∙ ap (neg q) (one_mul-mod q a) ∙ neg-mod q a)
 
 -- a multiple of a path between two others, zero where they do not meet
-product-one : (q : Gf) (t : ℕ) (u v : Path) (a : Term) (p : Path) → product_between t u (λ r. mul q a.coef (path_element t a.path r)) v p
+pub product-one : (q : Gf) (t : ℕ) (u v : Path) (a : Term) (p : Path) → product_between t u (λ r. mul q a.coef (path_element t a.path r)) v p
     ≡ (if eqb u.end a.path.start && eqb a.path.end v.start then mul q a.coef (path_element t (composite u a.path v) p) else 0)
 product-one q t u v a p = elim (cases_Bool (eqb u.end a.path.start && eqb a.path.end v.start)) [
   | inl e ↦

@@ -8,16 +8,27 @@ use quiver_paths::{Path, Quiver};
 use seq::Seq;
 use std::alloc::AllocError;
 
+mod clauses;
 mod closing;
 mod closure;
+mod derivations;
+mod first_clauses;
 pub mod laws;
 mod products;
+mod reduced;
 mod rules;
+mod sums;
 mod table;
+mod tips;
+mod words;
 
+pub use clauses::{rules_hold, steps_hold};
 pub use closing::close_rows;
+pub use first_clauses::first_fault;
+pub use reduced::reduced_holds;
 pub use rules::{BasisFault, Element, Rule, Step};
 pub use table::Table;
+pub use words::words_hold;
 
 /// A coefficient, from 1 to the field's size less 1, and a path.
 #[derive(Debug, Drop)]
