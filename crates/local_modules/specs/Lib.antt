@@ -1,5 +1,6 @@
 pub mod Algebra
 pub mod Certificate
+pub mod Decomposition
 pub mod Ideal
 pub mod Isomorphic
 pub mod Local
