@@ -5,4 +5,5 @@ pub mod Ideal
 pub mod Isomorphic
 pub mod Local
 pub mod MatrixAlgebra
+pub mod Residue
 pub mod Splitting
