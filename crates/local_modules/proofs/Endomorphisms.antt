@@ -1,24 +1,23 @@
 -- Members of a matrix algebra and their coordinates: isomorphisms and nilpotent endomorphisms are the invertible and the nilpotent elements; a
 -- module is local exactly where its endomorphism algebra has a certificate.
 use Rattle.std.proofs.Common.{ℕ, zero, suc, ◌<◌, ◌≤◌, ◌≡◌, ◌≢◌, ◌⊎◌, inl, inr, sym, ap, refl, arith, ◌∙◌, subst}
-use Rattle.std.proofs.lemmas.Bool.{cases_lt}
 use Rattle.linear_algebra.specs.Field.{Gf}
 use Rattle.linear_algebra.specs.Matrix.{zeros, one, delta-same}
 use Rattle.linear_algebra.proofs.MatrixLaws.{zero_scale, one-at}
-use Rattle.linear_algebra.proofs.Search.{search_or_all, zero_or_not}
 use Rattle.representations.specs.Quiver.{Quiver}
 use Rattle.representations.specs.Rep.{Rep}
 use Rattle.representations.specs.Hom.{Hom, ◌≫◌, identity, zero_hom, power}
 use Rattle.representations.specs.Module.{IsIso, IsNilpotent, IsZero}
 use Rattle.representations.specs.HomSpace.{HomBasis}
-use Rattle.representations.proofs.Homs.{power-zero, power-suc, zero_multiple, same-at, identity-at, zero_hom-at, compose_assoc, compose_identity, zero_compose}
-use Rattle.representations.proofs.HomSpace.{coordinates, hom-coordinates, hom_basis}
+use Rattle.representations.proofs.Homs.{power-zero, power-suc, zero_multiple, same-at, identity-at, zero_hom-at}
+use Rattle.representations.proofs.HomSpace.{coordinates, hom-coordinates}
 use Rattle.local_modules.specs.Algebra.{Algebra, Element, power_in, IsUnitIn, IsNilpotentIn, IsMixed}
 use Rattle.local_modules.specs.MatrixAlgebra.{MatrixAlgebra, algebra_of, endomorphisms, endomorphism_algebra}
 use Rattle.local_modules.specs.Certificate.{LocalCertificate}
 use Rattle.local_modules.specs.Local.{IsLocal}
-use Rattle.local_modules.proofs.AlgebraLaws.{power_in-zero, power_in-suc, product_zeros, classify, nilpotent_no_unit, settles}
+use Rattle.local_modules.proofs.AlgebraLaws.{power_in-zero, power_in-suc}
 use Rattle.local_modules.proofs.ResidueConditions.{certificate_local}
+use Rattle.local_modules.proofs.FittingSplitting.{rows_or_none}
 use Rattle.local_modules.proofs.Decision.{decide_algebra}
 
 one_not_zero : (n : ℕ) → n ≡ 1 → n ≡ 0 → ⊥
@@ -98,20 +97,13 @@ module _ {q : Gf} {Q : Quiver} {X : Rep q Q} (B : HomBasis X X) where
     | inr c ↦ c
   ]
 
--- A representation is zero or has a vertex where it is not.
-pub zero_or_vertex : {q : Gf} {Q : Quiver} (X : Rep q Q) → IsZero X ⊎ ((v : ℕ) × (X.dim v ≢ zero))
-zero_or_vertex {Q = Q} X = elim (search_or_all Q.vertices (λ v. X.dim v ≢ zero) (λ v. X.dim v ≡ zero) (λ v. zero_or_not (X.dim v))) [
-  | inl f ↦ inr (f.0, f.2)
-  | inr z ↦ inl (λ v. elim (cases_lt v Q.vertices) [ inl l ↦ z v l | inr l ↦ X.past v l ])
-]
-
 -- Each module is zero, or local with a certificate, or has an endomorphism that is neither an isomorphism nor nilpotent.
 pub decide : {q : Gf} {Q : Quiver} (X : Rep q Q) (B : HomBasis X X)
     → IsZero X ⊎ (IsLocal X × LocalCertificate (endomorphism_algebra B)) ⊎ ((f : Hom X X) × (IsIso f → ⊥) × (IsNilpotent f → ⊥))
-decide X B = elim (zero_or_vertex X) [
-  | inl z ↦ inl z
-  | inr v ↦ elim (decide_algebra (endomorphism_algebra B) (unit_nonzero (endomorphisms B) v.0 v.1)) [
+decide X B = elim (rows_or_none X) [
+  | inr z ↦ inl z
+  | inl v ↦ elim (decide_algebra (endomorphism_algebra B) (unit_nonzero (endomorphisms B) v.vertex v.nonzero)) [
     | inl m ↦ inr (inr (B.hom m.0, (λ i. m.1.no_unit (unit_of_iso B m.0 i)), (λ n. m.1.not_nilpotent (nilpotent_of_member (endomorphisms B) m.0 n))))
-    | inr c ↦ inr (inl (local_of_certificate B v.0 v.1 c, c))
+    | inr c ↦ inr (inl (local_of_certificate B v.vertex v.nonzero c, c))
   ]
 ]
