@@ -25,19 +25,9 @@ use Rattle.projectives.specs.TwoSided.{TwoSided}
 use Rattle.projectives.specs.Pairing.{IsFunctional, pairing, IsPairingAfter}
 use Rattle.projectives.proofs.Pairing.{perfect_after}
 use Rattle.local_modules.specs.Local.{IsLocal}
+use Rattle.local_modules.proofs.DecidedSpaces.{Spanning, spanning_rows}
 use Rattle.local_modules.proofs.LocalRings.{never_both, iso_identity, nilpotent_sum, nilpotent_multiple}
 use Rattle.auslander_reiten.specs.SequenceData.{LocalPresentation, EndFunctional}
-use Rattle.auslander_reiten.proofs.RowSearch.{search_rows}
-
--- A combination of rows one over the other.
-combination_of_stack : {q : Gf} {m k n l : ℕ} (c : Mat q l (m + k)) (a : Mat q m n) (b : Mat q k n) → c · stack (one q m) (zeros q k m) · a ⊞ c · stack (zeros q m k) (one q k) · b ≡ c · stack a b
-combination_of_stack {q} {m} {k} c a b =
-    ap₂ (λ x y. x ⊞ y) (mul_assoc_mat c (stack (one q m) (zeros q k m)) a) (mul_assoc_mat c (stack (zeros q m k) (one q k)) b)
-    ∙ sym (mul_add_mat c (stack (one q m) (zeros q k m) · a) (stack (zeros q m k) (one q k) · b))
-    ∙ ap (λ z. c · z) (whole a b)
-  where
-    whole : {n : ℕ} (a : Mat q m n) (b : Mat q k n) → stack (one q m) (zeros q k m) · a ⊞ stack (zeros q m k) (one q k) · b ≡ stack a b
-    whole a b = simp (blocks, products)
 
 module _ {q : Gf} {Q : Quiver} {M : Rep q Q} (L : IsLocal M) where
   abbrev pub ends : HomBasis M M
@@ -54,51 +44,11 @@ module _ {q : Gf} {Q : Quiver} {M : Rep q Q} (L : IsLocal M) where
   }
 
   -- Rows whose combinations are the nilpotent endomorphisms, in coordinates.
-  pub record RadicalRows : Type 0 where
-    pub size : ℕ
-    pub rows : Mat q size ends.size
-    pub inside : (x : Row q size) → Nilpotent (x · rows)
-    pub spans : (x : Row q ends.size) → Nilpotent x → IsInSpan rows x
-
-  -- one row more
-  inside_more : {m : ℕ} (rows : Mat q m ends.size) → ((x : Row q m) → Nilpotent (x · rows)) → (y : Row q ends.size) → Nilpotent y → (x : Row q (1 + m)) → Nilpotent (x · stack y rows)
-  inside_more {m} rows inside y n x = subst Nilpotent (combination_of_stack x y rows) (
-      subst IsNilpotent (sym (hom_sum ends (x · stack (one q 1) (zeros q m 1) · y) (x · stack (zeros q 1 m) (one q m) · rows)))
-      (nilpotent_sum L (ends.hom (x · stack (one q 1) (zeros q m 1) · y)) (ends.hom (x · stack (zeros q 1 m) (one q m) · rows))
-      (subst Nilpotent (sym (scalar_mul (x · stack (one q 1) (zeros q m 1)) y))
-      (subst IsNilpotent (sym (hom_scale ends ((x · stack (one q 1) (zeros q m 1)).at 0 0) y)) (nilpotent_multiple L ((x · stack (one q 1) (zeros q m 1)).at 0 0) (ends.hom y) n)))
-      (inside (x · stack (zeros q 1 m) (one q m)))))
-
-  abbrev Beyond : {m : ℕ} → Mat q m ends.size → Row q ends.size → Type 0
-  Beyond rows y = Nilpotent y × IsSeparate rows y
-
-  decide : {m : ℕ} (rows : Mat q m ends.size) (y : Row q ends.size) → Beyond rows y ⊎ (Nilpotent y → IsInSpan rows y)
-  decide rows y = elim (L.decides (ends.hom y)) [
-    | inl i ↦ inr (λ n. absurd (never_both L (ends.hom y) n i))
-    | inr n ↦ elim (solve_or rows y) [ inl s ↦ inr (λ n. s) | inr s ↦ inl (n, s) ]
-  ]
-
-  abbrev Found : {m : ℕ} → Mat q m ends.size → Type 0
-  Found rows = (y : Row q ends.size) × Beyond rows y
-
-  next : {m : ℕ} (rows : Mat q m ends.size) → ((x : Row q m) → Nilpotent (x · rows)) → (Found rows → RadicalRows) → Found rows ⊎ ((y : Row q ends.size) → Nilpotent y → IsInSpan rows y) → RadicalRows
-  next rows inside more (inl y) = more y
-  next {m} rows inside more (inr all) = record { size = m; rows = rows; inside = inside; spans = all }
-
-  too_many : {m : ℕ} (rows : Mat q m ends.size) → HasRightInverse rows → ends.size ≤ m → Found rows → ⊥
-  too_many rows i h y =
-      let more = extended rows y.0 i y.1.1 in
-      let fewer = steinitz (stack y.0 rows) more.inverse more.is in
-      omega arith
-
-  grown : (fuel : ℕ) {m : ℕ} (rows : Mat q m ends.size) → HasRightInverse rows → ((x : Row q m) → Nilpotent (x · rows)) → ends.size ≤ m + fuel → RadicalRows
-  grown zero rows i inside h = next rows inside (λ y. absurd (too_many rows i (omega arith) y)) (search_rows ends.size (Beyond rows) (λ y. Nilpotent y → IsInSpan rows y) (decide rows))
-  grown (suc fuel) rows i inside h = next rows inside (λ y. grown fuel (stack y.0 rows) (extended rows y.0 i y.1.1) (inside_more rows inside y.0 y.1.0) (omega arith))
-      (search_rows ends.size (Beyond rows) (λ y. Nilpotent y → IsInSpan rows y) (decide rows))
-
-  pub radical_rows : RadicalRows
-  radical_rows = grown ends.size (zeros q 0 ends.size) (record { inverse = zeros q ends.size 0; is = no_rows _ _ })
-      (λ x. subst Nilpotent (sym (mul_zeros x)) zero_nilpotent) (omega arith)
+  radical_rows : Spanning Nilpotent
+  radical_rows = spanning_rows Nilpotent zero_nilpotent
+      (λ x y m n. subst IsNilpotent (sym (hom_sum ends x y)) (nilpotent_sum L (ends.hom x) (ends.hom y) m n))
+      (λ c x n. subst IsNilpotent (sym (hom_scale ends c x)) (nilpotent_multiple L c (ends.hom x) n))
+      (λ x. elim (L.decides (ends.hom x)) [ inl i ↦ inr (λ n. never_both L (ends.hom x) n i) | inr n ↦ inl n ])
 
   -- The column of a functional that is zero on the nilpotent endomorphisms and 1 on the identity.
   separate : IsSeparate radical_rows.rows (coordinates ends (identity M))
