@@ -15,6 +15,7 @@ use Rattle.projectives.specs.Families.{choose, family_in}
 use Rattle.projectives.specs.Components.{family_out}
 use Rattle.projectives.proofs.Families.{choose-same, choose-other, in-from_family}
 use Rattle.local_modules.specs.Local.{IsLocal}
+use Rattle.local_modules.specs.RadicalOfSum.{ArePairwiseApart}
 use Rattle.local_modules.proofs.LocalRings.{iso_identity, iso_minus_nilpotent}
 use Rattle.local_modules.proofs.TwoParts.{TwoParts}
 use Rattle.local_modules.proofs.Elimination.{rest_of, iso_by_elimination}
@@ -29,10 +30,6 @@ module _ {q : Gf} {Q : Quiver} where
       ∙ sum_of-single n k (λ j. g j ≫ choose X j k (cases_eq j k) (identity (X k)) (zero_hom (X j) (X k))) l
       (λ j b d. ap (λ z. g j ≫ z) (choose-other X j k (cases_eq j k) (identity (X k)) (zero_hom (X j) (X k)) d) ∙ compose_zero (g j) (X k))
       ∙ ap (λ z. g k ≫ z) (choose-same X k (cases_eq k k) (identity (X k)) (zero_hom (X k) (X k))) ∙ compose_identity (g k)
-
-  -- modules that are pairwise apart: from one to another and back is nilpotent
-  abbrev pub ArePairwiseApart : ℕ → (ℕ → Rep q Q) → Type 0
-  ArePairwiseApart n Y = (k l : ℕ) → k < n → l < n → k ≢ l → (f : Hom (Y k) (Y l)) (g : Hom (Y l) (Y k)) → IsNilpotent (f ≫ g)
 
   -- the diagonal components of what is left when the last member is eliminated
   diagonal_rest : (n : ℕ) (Y : ℕ → Rep q Q) → ((k : ℕ) → k < suc n → IsLocal (Y k)) → ArePairwiseApart (suc n) Y → (x : Hom (sum_family (suc n) Y) (sum_family (suc n) Y))
