@@ -84,17 +84,6 @@ rule_greatest h rule short greater = record {
   ];
 }
 
--- a factor of the whole length is the path
-pub whole_factor : (Q : Quiver) (f p : Path) (i : IsFactor Q f p) → path_length p ≤ path_length f → f ≡ p
-whole_factor Q f p i l =
-    let lengths = length-factor Q f p i in
-    let before : i.before ≡ trivial_path i.before.start = trivial_from_length Q i.before i.before_is (omega (arith, lengths, l)) in
-    let behind : i.behind ≡ trivial_path i.behind.start = trivial_from_length Q i.behind i.behind_is (omega (arith, lengths, l)) in
-    sym (i.whole ∙ ap₂ (λ u v. concat u (concat f v))
-    (before ∙ ap trivial_path (ap (λ (x : Path). x.end) (sym before) ∙ i.meets_before))
-    (behind ∙ ap trivial_path (sym i.meets_behind))
-    ∙ ap (concat (trivial_path f.start)) (concat-trivial_right f) ∙ concat-trivial_left f)
-
 -- ---- where the steps and the rules hold
 
 module _ (h : Header) (steps : List Step) (rules : List Rule) (ok : IsAllowed h) (named : AreSteps h steps) (hold : RulesHold h steps rules) where

@@ -19,7 +19,7 @@ use Rattle.alg_table.specs.declared.Header.{Header}
 use Rattle.alg_table.specs.declared.rules.Rule.{Rule}
 use Rattle.alg_table.specs.Reduction.{HasNoTip}
 use Rattle.alg_table.specs.Occurring.{AreLongTips, TipsAscend, IsTipOf, EndsInTip, HasTip, IsReducedAmong}
-use Rattle.alg_table.proofs.ClausesSuffice.{whole_factor}
+use Rattle.alg_table.proofs.NormalFactors.{whole_factor}
 
 -- the arrows of the rule's tip stand among these, between some before and some behind them
 pub record StandsIn (rules : List Rule) (rule : Rule) (arrows before behind : List ℕ) : Type 0 where
