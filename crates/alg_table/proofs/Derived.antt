@@ -1,15 +1,14 @@
 -- The terms of the steps' elements.
-use Rattle.std.proofs.Common.{ℕ, zero, suc, ◌≡◌, ◌≢◌, ◌<◌, ◌≤◌, ◌+◌, ◌-◌, ◌⊎◌, inl, inr, List, [], ◌∷◌, ◌++◌, map, take, length, length-append, get_or, refl, sym, ap, ap₂, ◌∙◌, subst, arith}
+use Rattle.std.proofs.Common.{ℕ, ◌≡◌, ◌<◌, ◌≤◌, ◌+◌, ◌-◌, inl, inr, List, [], ◌∷◌, ◌++◌, take, length, length-append, get_or, refl, sym, ap, ap₂, ◌∙◌, subst, arith}
 use Rattle.std.specs.Prelude.{Contains, All, slice_index_or}
-use mathlib.Core.Path.{fun_ext}
 use Rattle.std.proofs.lemmas.Bool.{cases_lt}
-use Rattle.std.proofs.lemmas.List.{get_or_append_left, get_or_default, take_more, length-map}
+use Rattle.std.proofs.lemmas.List.{get_or_append_left, take_more}
 use Rattle.std.proofs.Math.Seq.{get_or-append_seam}
-use Rattle.std.proofs.lemmas.List.Elements.{All-contains, Contains-get_or}
-use Rattle.linear_algebra.specs.Field.{Gf, order, add, mul}
-use Rattle.linear_algebra.specs.FieldLaws.{add_zero, mul_zero, mul_below, one_mul, one-lt-order}
+use Rattle.std.proofs.lemmas.List.Elements.{All-contains}
+use Rattle.linear_algebra.specs.Field.{add, mul}
+use Rattle.linear_algebra.specs.FieldLaws.{add_zero, mul_zero, mul_below, one_mul}
 use Rattle.quiver_paths.specs.declared.Path.{Path}
-use Rattle.quiver_paths.specs.Path.{IsPath, path_length, arrow_path}
+use Rattle.quiver_paths.specs.Path.{path_length, arrow_path}
 use Rattle.alg_table.specs.declared.Term.{Term}
 use Rattle.alg_table.specs.declared.Relation.{Relation}
 use Rattle.alg_table.specs.declared.Header.{Header}
@@ -17,7 +16,6 @@ use Rattle.alg_table.specs.declared.rules.Element.{Element}
 use Rattle.alg_table.specs.declared.rules.Step.{Step}
 use Rattle.alg_table.specs.declared.rules.Step.TheVariants.{Left, Right, Add}
 use Rattle.alg_table.specs.Elements.{path_element, sum_of_terms}
-use Rattle.alg_table.specs.Ideals.{relation_element}
 use Rattle.alg_table.specs.Allowed.{IsAllowed, IsRelation, IsTerm}
 use Rattle.alg_table.specs.Rules.{AreElementTerms}
 use Rattle.alg_table.specs.Derivations.{element_at, step_element, elements_behind, step_elements, IsNumber}
@@ -26,7 +24,7 @@ use Rattle.alg_table.proofs.TermProducts.{AreTermsOf-behind, AreTermsOf-before}
 use Rattle.quiver_paths.specs.Quiver.{arrow_count}
 use Rattle.quiver_paths.proofs.PathLemmas.{IsPath-arrow}
 use Rattle.alg_table.proofs.ElementLemmas.{path_element-long, sum_of_terms-below, sum_of_terms-append}
-use Rattle.alg_table.proofs.TermLists.{sum_of_terms-nil, sum_of_terms-cons, IsElementTerm, AreElementTerms-nil, AreElementTerms-one}
+use Rattle.alg_table.proofs.TermLists.{sum_of_terms-nil, sum_of_terms-cons, AreElementTerms-nil, AreElementTerms-one}
 
 -- ---- relations
 
@@ -46,6 +44,10 @@ long_term h sum a are l = record {
 
 pub one_term : (h : Header) (a : Term) → IsTerm h a → path_length a.path < h.bound → AreElementTerms h (a ∷ [])
 one_term h a t l = AreElementTerms-one h a (record { nonzero = t.nonzero; small = t.small; short = record { path = t.path; short = l } })
+
+-- a list with one item, as the code makes it
+pub one_item : {X : Type 0} (lent made empty : List X) (copy a : X) → lent ≡ made → made ≡ empty ++ copy ∷ [] → empty ≡ [] → copy ≡ a → lent ≡ a ∷ []
+one_item lent made empty copy a l m e c = l ∙ m ∙ (λ i. e i ++ c i ∷ [])
 
 pub short_term : (h : Header) (sum longer : List Term) (a : Term)
     → AreTermsOf h (plus_multiple h.field (sum_of_terms h.field h.bound sum) 1 (sum_of_terms h.field h.bound (a ∷ []))) longer
@@ -121,34 +123,41 @@ kept_as_terms h elements xs each k d l = (each.each k d (λ p. 0) (let c = each.
 
 -- ---- the steps, one kind after the other
 
-pub left_step : (h : Header) (elements : List Element) (earlier : List (Path → ℕ)) (a j : ℕ) (u : Path) (e : Element) (slice products : List Term) → IsAllowed h
-    → (a < arrow_count h.quiver) × IsNumber (length elements) j → u ≡ arrow_path h.quiver a → e ≡ get_or elements (j - 1) e → slice ≡ e.terms → products ≡ terms_behind h.bound u slice
+-- the terms of the element with this number
+abbrev AreTermsAt : List Element → ℕ → List Term → Type 0
+AreTermsAt elements number terms = (e : Element) → terms ≡ (get_or elements (number - 1) e).terms
+
+terms_numbered : (h : Header) (elements : List Element) (xs : List (Path → ℕ)) (number : ℕ) (terms : List Term) → AreTermsOfEach h elements xs → IsNumber (length elements) number
+    → AreTermsAt elements number terms → AreTermsOf h (element_at xs number) terms
+terms_numbered h elements xs number terms each n at =
+    subst (AreTermsOf h (element_at xs number)) (sym (at (record { terms = [] }))) (each.each (number - 1) (record { terms = [] }) (λ p. 0) (let a = n.from in let b = n.to in let c = each.count in omega arith))
+
+pub left_step : (h : Header) (elements : List Element) (earlier : List (Path → ℕ)) (a j : ℕ) (u : Path) (terms products : List Term) → IsAllowed h
+    → (a < arrow_count h.quiver) × IsNumber (length elements) j → u ≡ arrow_path h.quiver a → AreTermsAt elements j terms → products ≡ terms_behind h.bound u terms
     → AreTermsOfEach h elements earlier → AreTermsOf h (step_element h earlier (Left a j)) products
-left_step h elements earlier a j u e slice products ok named path is terms made each =
-    subst (AreTermsOf h (step_element h earlier (Left a j))) (sym (made ∙ ap₂ (terms_behind h.bound) path terms))
-    (AreTermsOf-behind h (arrow_path h.quiver a) (element_at earlier j) e.terms (IsPath-arrow h.quiver a ok.quiver.ends named.0) (numbered h elements earlier j e each named.1 is))
+left_step h elements earlier a j u terms products ok named path at made each =
+    subst (AreTermsOf h (step_element h earlier (Left a j))) (sym (made ∙ ap (λ v. terms_behind h.bound v terms) path))
+    (AreTermsOf-behind h (arrow_path h.quiver a) (element_at earlier j) terms (IsPath-arrow h.quiver a ok.quiver.ends named.0) (terms_numbered h elements earlier j terms each named.1 at))
 
-pub right_step : (h : Header) (elements : List Element) (earlier : List (Path → ℕ)) (j a : ℕ) (u : Path) (e : Element) (slice products : List Term) → IsAllowed h
-    → IsNumber (length elements) j × (a < arrow_count h.quiver) → u ≡ arrow_path h.quiver a → e ≡ get_or elements (j - 1) e → slice ≡ e.terms → products ≡ terms_before h.bound u slice
+pub right_step : (h : Header) (elements : List Element) (earlier : List (Path → ℕ)) (j a : ℕ) (u : Path) (terms products : List Term) → IsAllowed h
+    → IsNumber (length elements) j × (a < arrow_count h.quiver) → u ≡ arrow_path h.quiver a → AreTermsAt elements j terms → products ≡ terms_before h.bound u terms
     → AreTermsOfEach h elements earlier → AreTermsOf h (step_element h earlier (Right j a)) products
-right_step h elements earlier j a u e slice products ok named path is terms made each =
-    subst (AreTermsOf h (step_element h earlier (Right j a))) (sym (made ∙ ap₂ (terms_before h.bound) path terms))
-    (AreTermsOf-before h (arrow_path h.quiver a) (element_at earlier j) e.terms (IsPath-arrow h.quiver a ok.quiver.ends named.1) (numbered h elements earlier j e each named.0 is))
+right_step h elements earlier j a u terms products ok named path at made each =
+    subst (AreTermsOf h (step_element h earlier (Right j a))) (sym (made ∙ ap (λ v. terms_before h.bound v terms) path))
+    (AreTermsOf-before h (arrow_path h.quiver a) (element_at earlier j) terms (IsPath-arrow h.quiver a ok.quiver.ends named.1) (terms_numbered h elements earlier j terms each named.0 at))
 
-pub add_step : (h : Header) (elements : List Element) (earlier : List (Path → ℕ)) (j c m : ℕ) (e f : Element) (first second terms : List Term)
-    → IsNumber (length elements) j × IsNumber (length elements) m → e ≡ get_or elements (j - 1) e → f ≡ get_or elements (m - 1) f → first ≡ e.terms → second ≡ f.terms
+pub add_step : (h : Header) (elements : List Element) (earlier : List (Path → ℕ)) (j c m : ℕ) (first second terms : List Term)
+    → IsNumber (length elements) j × IsNumber (length elements) m → AreTermsAt elements j first → AreTermsAt elements m second
     → AreTermsOf h (plus_multiple h.field (sum_of_terms h.field h.bound first) c (sum_of_terms h.field h.bound second)) terms
     → AreTermsOfEach h elements earlier → AreTermsOf h (step_element h earlier (Add j c m)) terms
-add_step h elements earlier j c m e f first second terms named is is' et ft of each =
+add_step h elements earlier j c m first second terms named at at' of each =
     AreTermsOf-same h _ _ terms
-    (λ p. ap₂ (λ x y. add h.field x (mul h.field c y)) (ap (λ ts. sum_of_terms h.field h.bound ts p) et ∙ (numbered h elements earlier j e each named.0 is).value p)
-    (ap (λ ts. sum_of_terms h.field h.bound ts p) ft ∙ (numbered h elements earlier m f each named.1 is').value p)) of
+    (λ p. ap₂ (λ x y. add h.field x (mul h.field c y)) ((terms_numbered h elements earlier j first each named.0 at).value p) ((terms_numbered h elements earlier m second each named.1 at').value p)) of
 
--- the terms of one of the elements
-pub numbered_terms : (h : Header) (elements : List Element) (j : ℕ) (e : Element) (slice : List Term) → IsNumber (length elements) j → e ≡ get_or elements (j - 1) e → slice ≡ e.terms
-    → All (λ (x : Element). AreElementTerms h x.terms) elements → AreElementTerms h slice
-numbered_terms h elements j e slice n is terms all =
-    subst (AreElementTerms h) (sym (terms ∙ ap (λ (x : Element). x.terms) is)) (all (j - 1) e (let a = n.from in let b = n.to in omega arith))
+pub numbered_terms : (h : Header) (elements : List Element) (number : ℕ) (terms : List Term) → IsNumber (length elements) number → AreTermsAt elements number terms
+    → All (λ (x : Element). AreElementTerms h x.terms) elements → AreElementTerms h terms
+numbered_terms h elements number terms n at all =
+    subst (AreElementTerms h) (sym (at (record { terms = [] }))) (all (number - 1) (record { terms = [] }) (let a = n.from in let b = n.to in omega arith))
 
 -- there are as many elements as steps
 elements_behind-length : (h : Header) (earlier : List (Path → ℕ)) (steps : List Step) → length (elements_behind h earlier steps) ≡ length earlier + length steps

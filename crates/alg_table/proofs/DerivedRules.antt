@@ -1,11 +1,11 @@
 -- Rules and the terms of what they say is zero.
-use Rattle.std.proofs.Common.{ℕ, zero, suc, ◌≡◌, ◌≢◌, ◌<◌, ◌≤◌, ◌+◌, ◌-◌, ◌⊎◌, inl, inr, List, [], ◌∷◌, ◌++◌, map, take, drop, length, get_or, refl, sym, ap, ap₂, ◌∙◌, subst, arith, mod-eq_of_lt}
-use Rattle.std.specs.Prelude.{Contains, All, AllPairs}
-use Rattle.std.proofs.lemmas.Bool.{cases_eq, cases_lt}
-use Rattle.std.proofs.lemmas.List.{length-map, get_or-map, take_rest, get_or_default}
+use Rattle.std.proofs.Common.{ℕ, suc, ◌≡◌, ◌<◌, ◌+◌, ◌-◌, inl, inr, List, [], ◌∷◌, map, take, drop, length, get_or, refl, sym, ap, ap₂, ◌∙◌, subst, arith, mod-eq_of_lt}
+use Rattle.std.specs.Prelude.{Contains, All}
+use Rattle.std.proofs.lemmas.Bool.{cases_lt}
+use Rattle.std.proofs.lemmas.List.{length-map, take_rest, get_or_default}
 use Rattle.std.proofs.lemmas.List.Elements.{All-map, All-weaker, All-contains, All-contains_itself}
-use Rattle.linear_algebra.specs.Field.{Gf, order, add, mul, neg, sub}
-use Rattle.linear_algebra.specs.FieldLaws.{order-pos, one-lt-order, neg_below, neg_neg, neg_zero, neg-add, neg_mul, one_mul, sub_def}
+use Rattle.linear_algebra.specs.Field.{Gf, order, add, mul, neg}
+use Rattle.linear_algebra.specs.FieldLaws.{one-lt-order, neg_below, neg_neg, neg_zero, neg-add, neg_mul, one_mul, sub_def}
 use Rattle.quiver_paths.specs.declared.Path.{Path}
 use Rattle.quiver_paths.specs.Path.{IsPath, path_length}
 use Rattle.quiver_paths.specs.PathOrder.{IsSmaller}
@@ -19,10 +19,10 @@ use Rattle.alg_table.specs.Elements.{path_element, sum_of_terms}
 use Rattle.alg_table.specs.Words.{IsShortPath}
 use Rattle.alg_table.specs.Rules.{AreElementTerms, rule_element}
 use Rattle.alg_table.specs.Derivations.{element_at, step_elements, IsNumber}
-use Rattle.alg_table.specs.BasisClauses.{RuleHolds, RulesHold}
+use Rattle.alg_table.specs.BasisClauses.{RuleHolds}
 use Rattle.alg_table.specs.ElementTerms.{AreTermsOf, AreTermsOfEach, negative, rule_terms, IsRuleOf}
 use Rattle.alg_table.proofs.ElementLemmas.{path_element-below}
-use Rattle.alg_table.proofs.TermLists.{sum_of_terms-nil, sum_of_terms-cons, IsElementTerm, AreElementTerms-cons, AreElementTerms-below, terms_from_element}
+use Rattle.alg_table.proofs.TermLists.{sum_of_terms-nil, sum_of_terms-cons, AreElementTerms-cons, AreElementTerms-below, terms_from_element}
 use Rattle.alg_table.proofs.Derived.{numbered}
 
 -- ---- negatives

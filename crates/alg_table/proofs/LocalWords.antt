@@ -1,19 +1,19 @@
 -- Words that are judged one by one are all paths without a tip.
-use Rattle.std.proofs.Common.{ℕ, zero, suc, ◌≡◌, ◌≢◌, ◌<◌, ◌≤◌, ◌+◌, ◌-◌, ◌⊎◌, inl, inr, List, [], ◌∷◌, ◌++◌, length, take, drop, get_or, refl, sym, ap, ap₂, ◌∙◌, subst, arith, length-append}
+use Rattle.std.proofs.Common.{ℕ, zero, suc, ◌≡◌, ◌<◌, ◌≤◌, ◌-◌, ◌⊎◌, inl, inr, List, [], ◌∷◌, ◌++◌, length, take, get_or, refl, sym, ap, ap₂, ◌∙◌, subst, arith, length-append}
 use Rattle.std.specs.Prelude.{Contains, All, MatchBool}
 use mathlib.Core.Bool.{Bool, true, false}
 use Rattle.std.specs.Ordering.{ordering_then, nat_cmp}
 use Rattle.std.specs.declared.cmp.Ordering.TheVariants.{Less, Equal, Greater}
 use Rattle.std.proofs.lemmas.Bool.{cases_lt}
 use Rattle.std.proofs.lemmas.List.{get_or_default, take_all, take-take, take_at, length-take-le}
-use Rattle.std.proofs.lemmas.List.Elements.{All-contains, Contains-get_or}
+use Rattle.std.proofs.lemmas.List.Elements.{All-contains}
 use Rattle.quiver_paths.specs.declared.Path.{Path}
 use Rattle.quiver_paths.specs.declared.Quiver.{Quiver}
-use Rattle.quiver_paths.specs.Path.{IsPath, path_length, IsFactor, Meets, concat, trivial_path, arrow_path}
-use Rattle.quiver_paths.specs.PathOrder.{path_cmp, IsSmaller, IsAscending}
-use Rattle.quiver_paths.specs.PathParts.{IsCut, IsThenArrow}
-use Rattle.quiver_paths.specs.Quiver.{HasEnds, vertex_count, arrow_count, source}
-use Rattle.quiver_paths.proofs.PathLemmas.{IsPath-same, IsPath-trivial, IsPath-arrow, IsPath-concat, IsFactor-trans, IsFactor-arrows, length-factor, trivial_from_length, ends_with_arrow, length-then_arrow, cut, path_length-concat, concat-trivial_right}
+use Rattle.quiver_paths.specs.Path.{IsPath, path_length, IsFactor, concat, trivial_path, arrow_path}
+use Rattle.quiver_paths.specs.PathOrder.{path_cmp, IsAscending}
+use Rattle.quiver_paths.specs.PathParts.{IsThenArrow}
+use Rattle.quiver_paths.specs.Quiver.{source}
+use Rattle.quiver_paths.proofs.PathLemmas.{IsPath-same, IsPath-trivial, IsPath-arrow, IsPath-concat, IsFactor-trans, IsFactor-arrows, length-factor, trivial_from_length, ends_with_arrow, length-then_arrow, path_length-concat}
 use Rattle.quiver_paths.proofs.PathOrderLemmas.{path_cmp-Equal}
 use Rattle.alg_table.specs.declared.Header.{Header}
 use Rattle.alg_table.specs.declared.rules.Rule.{Rule}
@@ -24,10 +24,9 @@ use Rattle.alg_table.specs.BasisClauses.{WordsHold}
 use Rattle.alg_table.specs.Occurring.{arrows_cmp, AreLongTips, EndsInTip, HasTip}
 use Rattle.alg_table.specs.WordChecks.{IsWordAt, HasTrivialWords, IsGrown, GoesOn, GoesOnBy, IsClosed, IsWellPlaced}
 use Rattle.alg_table.proofs.Occurrences.{cases_occurrence}
-use Rattle.alg_table.proofs.Independent.{cases_listed}
 use Rattle.alg_table.proofs.Places.{place-less, place-greater}
 use Rattle.alg_table.proofs.TipPlaces.{path_cmp-by_arrows}
-use Rattle.alg_table.proofs.TipFactors.{FoundTip, StandsIn, found_at_end, factor_found, ends_from, in_front, no_tip_if, tip_refuses}
+use Rattle.alg_table.proofs.TipFactors.{FoundTip, found_at_end, factor_found, ends_from, in_front, no_tip_if, tip_refuses}
 
 -- ---- the search among the words
 

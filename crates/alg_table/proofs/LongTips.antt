@@ -1,6 +1,6 @@
 -- What the tests of the tips and of the words take for granted, from the conditions before them.
-use Rattle.std.proofs.Common.{ℕ, ◌≤◌, List}
-use Rattle.std.specs.Prelude.{Contains, All}
+use Rattle.std.proofs.Common.{◌≤◌, List}
+use Rattle.std.specs.Prelude.{Contains}
 use Rattle.std.proofs.lemmas.List.Elements.{All-weaker, All-contains_itself}
 use Rattle.quiver_paths.specs.declared.Path.{Path}
 use Rattle.quiver_paths.specs.Path.{path_length}

@@ -1,6 +1,6 @@
 -- The terms of a path times an element, and of an element times a path.
-use Rattle.std.proofs.Common.{ℕ, ◌≡◌, ◌≢◌, ◌<◌, ◌≤◌, ◌+◌, ◌⊎◌, inl, inr, List, [], ◌∷◌, ◌++◌, map, length, true, false, ◌&&◌, eqb, ltb, refl, sym, ap, ap₂, ◌∙◌, subst, arith, length-append}
-use Rattle.std.specs.Prelude.{Contains, All, AllPairs, if◌then◌else◌}
+use Rattle.std.proofs.Common.{ℕ, ◌≡◌, ◌<◌, ◌+◌, inl, inr, List, [], ◌∷◌, ◌&&◌, eqb, ltb, refl, sym, ap, ap₂, ◌∙◌, subst}
+use Rattle.std.specs.Prelude.{Contains, if◌then◌else◌}
 use Rattle.std.specs.List.{filter}
 use mathlib.Core.Path.{fun_ext}
 use mathlib.Core.Bool.{Bool}
@@ -20,11 +20,9 @@ use Rattle.alg_table.specs.Elements.{path_element, sum_of_terms, product_between
 use Rattle.alg_table.specs.Words.{IsShortPath}
 use Rattle.alg_table.specs.Rules.{AreElementTerms}
 use Rattle.alg_table.specs.ElementTerms.{term_behind, term_before, goes_behind, goes_before, terms_behind, terms_before, AreTermsOf}
-use Rattle.alg_table.proofs.Between.{composite}
-use Rattle.alg_table.proofs.ElementLemmas.{path_element-other, path_element-long, sum_of_terms-below, product-add, product-below}
+use Rattle.alg_table.proofs.ElementLemmas.{path_element-other, path_element-long, sum_of_terms-below, product-add}
 use Rattle.alg_table.proofs.IdealProducts.{product-nothing}
 use Rattle.alg_table.proofs.Congruence.{product-one}
-use Rattle.alg_table.proofs.TermLists.{sum_of_terms-nil, sum_of_terms-cons}
 
 -- ---- the value of one term
 

@@ -1,25 +1,22 @@
 -- Tips among the arrows of a path are tips that are factors of it.
-use Rattle.std.proofs.Common.{ℕ, zero, suc, ◌≡◌, ◌≢◌, ◌<◌, ◌≤◌, ◌+◌, ◌-◌, ◌⊎◌, inl, inr, List, [], ◌∷◌, ◌++◌, length, take, drop, get_or, refl, sym, ap, ap₂, ◌∙◌, subst, arith, length-append, append_assoc}
+use Rattle.std.proofs.Common.{ℕ, zero, suc, ◌≡◌, ◌≢◌, ◌<◌, ◌≤◌, ◌+◌, ◌-◌, List, [], ◌∷◌, ◌++◌, length, take, drop, get_or, refl, sym, ap, ◌∙◌, subst, arith, length-append, append_assoc}
 use Rattle.std.specs.Prelude.{Contains, All, AllPairs, MatchBool}
 use mathlib.Core.Bool.{Bool, true, false}
 use Rattle.alg_table.specs.declared.Term.{Term}
 use Rattle.alg_table.specs.BasisClauses.{ReducedHolds}
 use Rattle.std.proofs.Math.Seq.{take-append_seam, drop-append_seam}
-use Rattle.std.proofs.lemmas.Bool.{cases_lt, cases_eq}
-use Rattle.std.proofs.lemmas.List.{take-append-drop, take-append-le, take_at, drop-drop, append-nil, length-take-le, length-drop, take_rest, get_or_default}
+use Rattle.std.proofs.lemmas.List.{take-append-drop, take_at, append-nil, length-take-le, length-drop, take_rest, get_or_default}
 use Rattle.std.proofs.lemmas.List.Elements.{All-contains}
 use Rattle.quiver_paths.specs.declared.Path.{Path}
-use Rattle.quiver_paths.specs.declared.Quiver.{Quiver}
 use Rattle.quiver_paths.specs.Path.{IsPath, path_length, IsFactor}
 use Rattle.quiver_paths.specs.PathOrder.{IsSmaller}
-use Rattle.quiver_paths.specs.Quiver.{HasEnds}
 use Rattle.quiver_paths.proofs.PathLemmas.{IsFactor-from_arrows, IsFactor-arrows, length-factor}
 use Rattle.quiver_paths.proofs.PathOrderLemmas.{IsSmaller-trans}
 use Rattle.alg_table.specs.declared.Header.{Header}
 use Rattle.alg_table.specs.declared.rules.Rule.{Rule}
 use Rattle.alg_table.specs.Reduction.{HasNoTip}
-use Rattle.alg_table.specs.Occurring.{AreLongTips, TipsAscend, IsTipOf, EndsInTip, HasTip, IsReducedAmong}
-use Rattle.alg_table.proofs.ClausesSuffice.{whole_factor}
+use Rattle.alg_table.specs.Occurring.{AreLongTips, TipsAscend, EndsInTip, HasTip, IsReducedAmong}
+use Rattle.alg_table.proofs.NormalFactors.{whole_factor}
 
 -- the arrows of the rule's tip stand among these, between some before and some behind them
 pub record StandsIn (rules : List Rule) (rule : Rule) (arrows before behind : List ℕ) : Type 0 where

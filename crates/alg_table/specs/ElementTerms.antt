@@ -3,9 +3,8 @@ use Rattle.std.specs.Prelude.{ℕ, ◌≡◌, ◌≢◌, ◌<◌, ◌+◌, ◌++
 use Rattle.std.specs.List.{filter}
 use Rattle.linear_algebra.specs.Field.{Gf, add, mul, neg}
 use Rattle.quiver_paths.specs.declared.Path.{Path}
-use Rattle.quiver_paths.specs.Path.{path_length, concat, arrow_path}
+use Rattle.quiver_paths.specs.Path.{path_length, concat}
 use Rattle.quiver_paths.specs.PathOrder.{IsSmaller}
-use Rattle.quiver_paths.specs.Quiver.{source, target}
 use Rattle.alg_table.specs.declared.Term.{Term}
 use Rattle.alg_table.specs.declared.Header.{Header}
 use Rattle.alg_table.specs.declared.rules.Element.{Element}

@@ -18,7 +18,7 @@ use fp_linear::Field;
 use std::alloc::{AllocError, Global};
 
 /// Whether each step names what stands before it, and each rule a step.
-pub fn steps_hold(header: &Header, steps: &[Step], rules: &[Rule]) -> bool
+pub(crate) fn steps_hold(header: &Header, steps: &[Step], rules: &[Rule]) -> bool
     ensures { MatchBool result (StepsHold header.now steps.now rules.now) (¬ StepsHold header.now steps.now rules.now) }
 {
     steps_name_earlier(header, steps) && rules_name_steps(steps.len(), rules)
@@ -74,7 +74,7 @@ fn rules_name_steps(steps: usize, rules: &[Rule]) -> bool
 
 /// Whether each rule's tip is shorter than the bound and greater than each path of its tail, and the tip less the tail is the element of the
 /// rule's step.
-pub fn rules_hold(
+pub(crate) fn rules_hold(
     alloc: Global,
     header: &Header,
     steps: &[Step],

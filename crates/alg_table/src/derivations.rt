@@ -1,5 +1,5 @@
 //! The elements of the steps of a derivation, kept as descending terms.
-ghost use Rattle.std.specs.Prelude.{ℕ, ◌≡◌, ◌<◌, ◌≤◌, ◌++◌, ◌∷◌, [], List, length, IfOk, OnOk, All, Contains};
+ghost use Rattle.std.specs.Prelude.{ℕ, ◌≡◌, ◌<◌, ◌≤◌, ◌++◌, ◌∷◌, [], List, ◌-◌, length, slice_index_or, IfOk, OnOk, All, Contains};
 ghost use Rattle.linear_algebra.specs.Field.{add, mul};
 ghost use Rattle.quiver_paths.specs.declared.Path.{Path};
 ghost use Rattle.quiver_paths.specs.Path.{IsPath, path_length, arrow_path};
@@ -10,7 +10,7 @@ ghost use Rattle.alg_table.specs.Elements.{sum_of_terms, path_element};
 ghost use Rattle.alg_table.specs.Ideals.{relation_element};
 ghost use Rattle.alg_table.specs.Allowed.{IsAllowed, IsTerm};
 ghost use Rattle.alg_table.specs.Rules.{AreElementTerms};
-ghost use Rattle.alg_table.specs.Derivations.{NamesEarlier, AreSteps, step_element, step_elements};
+ghost use Rattle.alg_table.specs.Derivations.{IsNumber, NamesEarlier, AreSteps, step_element, step_elements};
 ghost use Rattle.alg_table.specs.BasisClauses.{HasFactor};
 ghost use Rattle.alg_table.specs.ElementTerms.{terms_behind, terms_before, AreTermsOf, AreTermsOfEach};
 
@@ -62,25 +62,30 @@ fn terms_of_step(
         }
         Step::Left(arrow, number) => {
             let path = arrow_path(alloc, header, arrow)?;
-            let element = &elements[number as usize - 1];
-            let terms = terms_behind(alloc, header, &path, element.terms.as_slice())?;
+            let terms = terms_behind(alloc, header, &path, terms_at(elements, number))?;
             Ok(terms)
         }
         Step::Right(number, arrow) => {
             let path = arrow_path(alloc, header, arrow)?;
-            let element = &elements[number as usize - 1];
-            let terms = terms_before(alloc, header, element.terms.as_slice(), &path)?;
+            let terms = terms_before(alloc, header, terms_at(elements, number), &path)?;
             Ok(terms)
         }
         Step::Add(number, factor, other) => {
-            let first = &elements[number as usize - 1];
-            let second = &elements[other as usize - 1];
-            let first_terms = first.terms.as_slice();
-            let second_terms = second.terms.as_slice();
-            let terms = plus_multiple(alloc, header, first_terms, factor, second_terms)?;
+            let first = terms_at(elements, number);
+            let second = terms_at(elements, other);
+            let terms = plus_multiple(alloc, header, first, factor, second)?;
             Ok(terms)
         }
     }
+}
+
+/// The terms of the element with this number, counted from 1.
+fn terms_at(elements: &[Element], number: u32) -> &[Term]
+    requires { IsNumber (length elements.now) number }
+    ensures { (e : Element) → result.now ≡ (slice_index_or elements.now (number - 1) e).terms }
+{
+    let element = &elements[number as usize - 1];
+    element.terms.as_slice()
 }
 
 /// The terms of a relation that are shorter than the bound, in descending order.

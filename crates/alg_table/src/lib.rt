@@ -22,13 +22,10 @@ mod table;
 mod tips;
 mod words;
 
-pub use clauses::{rules_hold, steps_hold};
 pub use closing::close_rows;
 pub use first_clauses::first_fault;
-pub use reduced::reduced_holds;
 pub use rules::{BasisFault, Element, Rule, Step};
 pub use table::Table;
-pub use words::words_hold;
 
 /// A coefficient, from 1 to the field's size less 1, and a path.
 #[derive(Debug, Drop)]

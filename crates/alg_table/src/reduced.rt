@@ -18,7 +18,7 @@ use std::cmp::Ordering;
 ///
 /// The tips are paths with two arrows or more. Each factor of a path is looked for among the tips by halving, so the time grows with the number of
 /// rules little faster than in proportion.
-pub fn reduced_holds(header: &Header, rules: &[Rule]) -> bool
+pub(crate) fn reduced_holds(header: &Header, rules: &[Rule]) -> bool
     requires tips { AreLongTips header.now rules.now }
     requires tails { All (λ (rule : Rule). AreElementTerms header.now rule.tail.terms) rules.now }
     ensures { MatchBool result (ReducedHolds header.now rules.now) (¬ ReducedHolds header.now rules.now) }

@@ -67,6 +67,29 @@ fn push_greatest(
         sum.push(times(header.field, factor, &right[0])?)?;
         return Ok((0, 1));
     }
+    let taken = push_greater(header, left, factor, right, sum)?;
+    Ok(taken)
+}
+
+/// The same where there are terms on both sides.
+fn push_greater(
+    header: &Header,
+    left: &[Term],
+    factor: u8,
+    right: &[Term],
+    sum: &mut Vec<Term>,
+) -> Result<(usize, usize), AllocError>
+    requires left { AreElementTerms header.now left.now }
+    requires right { AreElementTerms header.now right.now }
+    requires nonzero { 0 < factor }
+    requires small { factor < order header.now.field }
+    requires left_some { 0 < length left.now }
+    requires right_some { 0 < length right.now }
+    ensures some { IfOk result (λ taken. 0 < taken.0 + taken.1) }
+    ensures one { IfOk result (λ taken. (taken.0 ≤ 1) × (taken.1 ≤ 1)) }
+    ensures merging { (total : Path → ℕ) → IsMerging header.now factor total sum.old.items left.now right.now
+        → IfOk result (λ taken. IsMerging header.now factor total sum.new.items (drop taken.0 left.now) (drop taken.1 right.now)) }
+{
     let first = &left[0];
     let second = &right[0];
     match compare(&first.path, &second.path) {

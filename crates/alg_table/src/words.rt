@@ -20,7 +20,7 @@ use std::cmp::Ordering;
 ///
 /// The tips are paths with two arrows or more. The paths are not listed: each word has to be a word and then an arrow, and with each arrow it has to
 /// be a word or to end in a tip.
-pub fn words_hold(
+pub(crate) fn words_hold(
     alloc: Global,
     header: &Header,
     words: &[Path],

@@ -1,4 +1,4 @@
-use Rattle.std.proofs.Common.{arith, ◌<◌, ◌≤◌, length}
+use Rattle.std.proofs.Common.{arith}
 use Rattle.alg_table.proofs.DerivedRules.{negatives_from_items}
 use Rattle.alg_table.proofs.clauses.are_negatives.Goals as goal
 

@@ -1,10 +1,6 @@
-use Rattle.std.proofs.Common.{◌≡◌, ◌<◌, ◌≤◌, ◌-◌, length, get_or, List, sym, ap, subst, arith, ◌∙◌, inl, inr}
+use Rattle.std.proofs.Common.{◌≡◌, length, sym, subst, arith, inl, inr}
 use Rattle.std.proofs.lemmas.Bool.{cases_lt}
-use Rattle.std.specs.Prelude.{All}
-use Rattle.quiver_paths.specs.Path.{IsPath}
-use Rattle.alg_table.specs.declared.Term.{Term}
 use Rattle.alg_table.specs.declared.rules.Rule.{Rule}
-use Rattle.alg_table.specs.Rules.{AreElementTerms}
 use Rattle.alg_table.specs.Derivations.{IsNumber, element_at, step_elements}
 use Rattle.alg_table.specs.BasisClauses.{RuleHolds}
 use Rattle.alg_table.specs.ElementTerms.{AreTermsOf}

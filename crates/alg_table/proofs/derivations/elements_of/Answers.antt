@@ -1,4 +1,4 @@
-use Rattle.std.proofs.Common.{◌≡◌, ◌<◌, ◌+◌, subst, sym, ap, length, length-append, arith, ◌∙◌, ◌++◌, ◌∷◌, [], take, get_or, List}
+use Rattle.std.proofs.Common.{subst, sym, ap, length, length-append, arith, ◌∙◌, [], take, get_or, List}
 use Rattle.std.specs.Prelude.{All}
 use Rattle.alg_table.specs.declared.Term.{Term}
 use Rattle.alg_table.specs.declared.rules.Element.{Element}

@@ -1,5 +1,4 @@
-use Rattle.std.proofs.Common.{◌≡◌, ◌<◌, subst, sym, ap, length, arith}
-use Rattle.alg_table.proofs.Derived.{AreTermsOf-none, one_term_more, term_of_relation}
+use Rattle.alg_table.proofs.Derived.{one_term_more}
 use Rattle.alg_table.proofs.derivations.terms_of_relation.Goals as goal
 
 pub loop-term-preserved : goal.loop-term-preserved

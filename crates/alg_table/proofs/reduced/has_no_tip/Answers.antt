@@ -1,8 +1,7 @@
-use Rattle.std.proofs.Common.{arith, ◌≡◌, ◌<◌, ◌≤◌, length, get_or, inl, inr, sym, subst}
+use Rattle.std.proofs.Common.{arith, inl, inr, sym, subst}
 use Rattle.std.proofs.lemmas.Bool.{cases_lt}
 use Rattle.quiver_paths.specs.Path.{IsPath}
 use Rattle.alg_table.specs.declared.Term.{Term}
-use Rattle.alg_table.specs.Words.{IsShortPath}
 use Rattle.alg_table.specs.Reduction.{HasNoTip}
 use Rattle.alg_table.specs.Occurring.{HasTip}
 use Rattle.alg_table.proofs.DerivedRules.{item_at}

@@ -1,9 +1,4 @@
-use Rattle.std.proofs.Common.{arith, ◌≡◌, ◌<◌, ◌≤◌, length, subst, true, false, inl, inr}
-use Rattle.std.specs.Prelude.{All, MatchBool}
-use Rattle.std.proofs.lemmas.Bool.{cases_Bool}
-use Rattle.alg_table.specs.declared.Term.{Term}
-use Rattle.alg_table.specs.Reduction.{HasNoTip}
-use Rattle.alg_table.specs.Occurring.{HasTip, IsReducedAmong}
+use Rattle.std.proofs.Common.{arith}
 use Rattle.alg_table.proofs.TipFactors.{front_refuses, rest_refuses, no_other_if, front_slice, front_slice_back, rest_slice, rest_slice_back, reduced_by_tail}
 use Rattle.alg_table.proofs.reduced.is_reduced_among.Goals as goal
 

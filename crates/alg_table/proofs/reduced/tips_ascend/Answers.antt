@@ -1,8 +1,5 @@
-use Rattle.std.proofs.Common.{arith, ◌≡◌, ◌+◌, ◌-◌, ◌<◌, ◌≤◌, length, get_or, inl, inr, sym, subst}
-use Rattle.std.proofs.lemmas.Bool.{cases_lt}
-use Rattle.quiver_paths.specs.PathOrder.{IsSmaller}
+use Rattle.std.proofs.Common.{arith}
 use Rattle.alg_table.specs.declared.rules.Rule.{Rule}
-use Rattle.alg_table.proofs.DerivedRules.{item_at}
 use Rattle.alg_table.proofs.TipFactors.{ascend_from_steps, next_is_greater}
 use Rattle.alg_table.proofs.reduced.tips_ascend.Goals as goal
 

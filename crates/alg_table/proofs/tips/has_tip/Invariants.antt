@@ -1,4 +1,4 @@
-use Rattle.std.proofs.Common.{ℕ, ◌<◌, ◌≤◌, take}
+use Rattle.std.proofs.Common.{ℕ, ◌≤◌, take}
 use Rattle.alg_table.specs.Occurring.{EndsInTip}
 use Rattle.alg_table.proofs.tips.has_tip.Given as goal
 

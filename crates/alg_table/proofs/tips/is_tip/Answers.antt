@@ -1,6 +1,6 @@
-use Rattle.std.proofs.Common.{arith, sym, ◌∙◌, ap, length, ◌<◌}
+use Rattle.std.proofs.Common.{arith, sym, ◌∙◌, ap}
 use Rattle.alg_table.specs.Occurring.{arrows_cmp}
-use Rattle.alg_table.proofs.TipPlaces.{tip-less, tip-greater, tip-equal, TipsStand}
+use Rattle.alg_table.proofs.TipPlaces.{tip-less, tip-greater, tip-equal}
 use Rattle.alg_table.proofs.tips.is_tip.Goals as goal
 
 pub loop-low-preserved-in-Less : goal.loop-low-preserved-in-Less

@@ -1,6 +1,5 @@
-use Rattle.std.proofs.Common.{◌≡◌, ◌++◌, ◌∷◌, [], ap, sym, ◌∙◌}
+use Rattle.std.proofs.Common.{◌++◌, ◌∷◌, [], ap, sym, ◌∙◌}
 use Rattle.quiver_paths.specs.declared.Arrow.{Arrow}
-use Rattle.quiver_paths.specs.Quiver.{source}
 use Rattle.quiver_paths.proofs.QuiverLemmas.{source_is}
 use Rattle.alg_table.proofs.LocalWords.{goes_on_if_met}
 use Rattle.alg_table.proofs.words.goes_on_by.Goals as goal

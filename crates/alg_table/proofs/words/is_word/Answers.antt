@@ -1,5 +1,5 @@
-use Rattle.std.proofs.Common.{arith, sym, ◌∙◌, length, ◌<◌}
-use Rattle.alg_table.proofs.LocalWords.{word-less, word-greater, word-equal, WordsStand}
+use Rattle.std.proofs.Common.{arith, sym, ◌∙◌}
+use Rattle.alg_table.proofs.LocalWords.{word-less, word-greater, word-equal}
 use Rattle.alg_table.proofs.words.is_word.Goals as goal
 
 pub loop-low-preserved-in-Less : goal.loop-low-preserved-in-Less
