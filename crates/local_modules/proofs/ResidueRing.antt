@@ -6,11 +6,12 @@ use Rattle.linear_algebra.specs.Rank.{IsInSpan}
 use Rattle.linear_algebra.specs.RowForm.{CoReducedForm}
 use Rattle.linear_algebra.proofs.MatrixLaws.{mul_assoc_mat, mul_one_mat, mul_zeros, zeros_mul, add_mul_mat, sub_mul_mat, scale_mul, difference, negative_scale, add_swap_mat, negative_sum, negative_negative, sub_eq_zeros, sub_self_mat, add_comm_mat, add_assoc_mat, add_zeros, negative_add, sub_zeros}
 use Rattle.linear_algebra.proofs.Products.{products, sums}
-use Rattle.linear_algebra.proofs.CoReduced.{place_rows, place_rows_undo}
+use Rattle.linear_algebra.proofs.CoReduced.{place_rows, place_rows_undo, coreduced_form}
 use Rattle.linear_algebra.proofs.Families.{in_span_scale, in_span_zeros}
 use Rattle.linear_algebra.proofs.Solving.{in_span_sum}
 use Rattle.local_modules.specs.Algebra.{Algebra, Element, power_in, product_in, IsUnitIn, IsNilpotentIn}
 use Rattle.local_modules.specs.Ideal.{IsTwoSided, PowerVanishes, IsCongruent}
+use Rattle.local_modules.specs.Residue.{ResidueRing}
 use Rattle.local_modules.proofs.AlgebraLaws.{product_difference, difference_product, power_in-zero, power_in-suc, unit_first, unit_minus_nilpotent, power_in-power, product_in-constant}
 
 -- Congruences.
@@ -167,3 +168,19 @@ module _ {q : Gf} (A : Algebra q) {k : ℕ} (I : Mat q k A.size) (C : CoReducedF
         where
           up : IsNilpotentIn A (power_in A x n.exponent) → IsNilpotentIn A x
           up m = record { exponent = n.exponent * m.exponent; vanishes = sym (power_in-power A x n.exponent m.exponent) ∙ m.vanishes }
+
+-- The residue ring as a whole, with its classes.
+pub residue : {q : Gf} (A : Algebra q) {k : ℕ} (I : Mat q k A.size) → IsTwoSided A I → ResidueRing A I
+unfolding class_of lift_of
+residue {q} A I t = let C = coreduced_form I in record {
+  ring = residue_ring A I C t;
+  class = C.projection;
+  place = C.place;
+  coreduced = C.coreduced;
+  lift = place_rows q C.size A.size C.place;
+  class_of_lift = place_rows_undo C.projection C.place C.coreduced;
+  product = class_product A I C t;
+  unit = refl;
+  vanishes = class_of_member A I C;
+  kernel = member_of_class A I C;
+}
