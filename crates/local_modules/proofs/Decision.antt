@@ -2,11 +2,10 @@
 use Rattle.std.proofs.Common.{ℕ, zero, suc, ◌+◌, ◌*◌, ◌<◌, ◌≤◌, ◌≡◌, ◌≢◌, ◌⊎◌, inl, inr, sym, ap, ◌∙◌, arith, subst}
 use Rattle.std.proofs.lemmas.Bool.{cases_lt}
 use Rattle.linear_algebra.specs.Field.{Gf, order}
-use Rattle.linear_algebra.specs.FieldLaws.{order-pos}
-use Rattle.linear_algebra.specs.Matrix.{Mat, zeros, ◌⊟◌, ◌⊙◌, ◌·◌}
+use Rattle.linear_algebra.specs.Matrix.{Mat, zeros, ◌⊟◌, ◌⊙◌}
 use Rattle.linear_algebra.specs.Rank.{IsInSpan}
 use Rattle.linear_algebra.specs.RowForm.{IsRowReduced, ReducedForm}
-use Rattle.linear_algebra.proofs.MatrixLaws.{sub_eq_zeros, mul_zeros}
+use Rattle.linear_algebra.proofs.MatrixLaws.{sub_eq_zeros}
 use Rattle.linear_algebra.proofs.RowForm.{reduced_form, reduced_independent}
 use Rattle.linear_algebra.proofs.Steinitz.{through_none, steinitz}
 use Rattle.linear_algebra.proofs.Families.{in_span_zeros}
@@ -18,11 +17,11 @@ use Rattle.local_modules.specs.Ideal.{IsTwoSided, PowerVanishes, IsFrobeniusFiel
 use Rattle.local_modules.specs.Residue.{ResidueRing}
 use Rattle.local_modules.specs.Certificate.{LocalCertificate}
 use Rattle.local_modules.proofs.AlgebraLaws.{zeros_product, product_zeros, product_in-one, nilpotent_no_unit, classify}
-use Rattle.local_modules.proofs.ResidueRing.{class_of, lift_of, class-lift, class_difference, class_multiple, class_of_member, member_of_class, Classes, classes_of, residue, ring_unit, class_unit, class_nilpotent, member_nilpotent, nilpotent_of_class, unit_of_class}
+use Rattle.local_modules.proofs.ResidueRing.{class_of, lift_of, class-lift, class_difference, class_multiple, class_of_member, member_of_class, Classes, classes_of, residue, ring_unit, class_unit, class_nilpotent, member_nilpotent, nilpotent_of_class}
 use Rattle.local_modules.proofs.FrobeniusFields.{power_of_unit, reduced_ring}
 use Rattle.local_modules.proofs.FixedElements.{shifts_not_all_units, fixed_or_scalars, root_or_injective}
 use Rattle.local_modules.proofs.Commutative.{commutative_or_not}
-use Rattle.local_modules.proofs.ResidueConditions.{commutes_residue, commutes_modulo, frobenius_modulo, unit_modulo}
+use Rattle.local_modules.proofs.ResidueConditions.{commutes_residue, frobenius_modulo, unit_modulo}
 use Rattle.local_modules.proofs.NilIdeals.{nil_right_ideal}
 use Rattle.local_modules.proofs.IdealGrowth.{enlarged, enlarged-has, enlarged-has_element, enlarged-two_sided, enlarged_power}
 use Rattle.local_modules.proofs.IdealPowers.{least_power, two_sided_same, power_same}

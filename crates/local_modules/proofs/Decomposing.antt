@@ -1,5 +1,5 @@
 -- Each module is a direct sum of local modules: a module that is neither zero nor local is split, and its two parts are decomposed.
-use Rattle.std.proofs.Common.{ℕ, zero, suc, ◌+◌, ◌-◌, ◌<◌, ◌≤◌, ◌≡◌, ◌≢◌, ◌⊎◌, inl, inr, refl, sym, ap, ap₂, ◌∙◌, arith, subst}
+use Rattle.std.proofs.Common.{ℕ, zero, suc, ◌+◌, ◌-◌, ◌<◌, ◌≤◌, ◌≡◌, ◌⊎◌, inl, inr, refl, sym, ap, ap₂, ◌∙◌, arith, subst}
 use Rattle.std.proofs.lemmas.Bool.{cases_lt}
 use Rattle.linear_algebra.specs.Field.{Gf}
 use Rattle.linear_algebra.specs.BlockFamilies.{total}
@@ -9,9 +9,9 @@ use Rattle.linear_algebra.proofs.Inverses.{inverse_sizes}
 use Rattle.representations.specs.Quiver.{Quiver}
 use Rattle.representations.specs.Rep.{Rep}
 use Rattle.representations.specs.Hom.{Hom, Hom-eq, ◌≫◌, ◌⊕◌, identity, zero_hom}
-use Rattle.representations.specs.Module.{Summand, Orthogonal, Biproduct, IsIso, IsZero}
+use Rattle.representations.specs.Module.{Summand, Orthogonal, IsIso, IsZero}
 use Rattle.representations.specs.Sum.{sum_family, sum_rep, into_first, into_second, onto_first, onto_second}
-use Rattle.representations.proofs.Homs.{compose_assoc, compose_identity, identity_compose, compose_zero, zero_compose}
+use Rattle.representations.proofs.Homs.{compose_assoc, compose_identity, compose_zero, zero_compose}
 use Rattle.representations.proofs.Endomorphisms.{iso_at}
 use Rattle.representations.proofs.Sums.{first_first, second_second, first_second, second_first, whole_sum}
 use Rattle.representations.proofs.HomSpace.{hom_basis}

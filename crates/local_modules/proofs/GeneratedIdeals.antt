@@ -1,16 +1,15 @@
 -- The ideal that an ideal and an element generate: it exists, is larger where the element is not in the ideal, and has a power that is zero where
 -- the ideal has one and products of right multiples of the element vanish.
-use Rattle.std.proofs.Common.{ℕ, ◌*◌, ◌<◌, ◌≤◌, ◌≡◌, inl, inr, sym, ap, ◌∙◌, arith, subst}
+use Rattle.std.proofs.Common.{ℕ, ◌*◌, ◌<◌, ◌≡◌, inl, inr, arith}
 use Rattle.std.proofs.lemmas.Bool.{cases_lt}
 use Rattle.linear_algebra.specs.Field.{Gf}
-use Rattle.linear_algebra.specs.Matrix.{Mat, Row, zeros, ◌·◌}
+use Rattle.linear_algebra.specs.Matrix.{Mat, Row, zeros}
 use Rattle.linear_algebra.specs.Rank.{IsInSpan, RankFactorisation, HasRightInverse}
 use Rattle.linear_algebra.proofs.Solving.{in_span_trans, left_f}
 use Rattle.linear_algebra.proofs.Subspaces.{inclusion_size, inclusion_equal}
 use Rattle.local_modules.specs.Algebra.{Algebra, Element, product_in}
 use Rattle.local_modules.specs.Ideal.{IsTwoSided, PowerVanishes, IsGeneratedWith}
 use Rattle.local_modules.proofs.IdealGrowth.{enlarged, enlarged-has, enlarged-has_element, enlarged-two_sided, enlarged-within, enlarged_power}
-use Rattle.local_modules.proofs.IdealPowers.{power_same}
 
 -- Rows that span more have a larger rank.
 pub rank_grows : {q : Gf} {k l n : ℕ} (I : Mat q k n) (J : Mat q l n) → IsInSpan J I → (x : Row q n) → IsInSpan J x → (IsInSpan I x → ⊥) → (F : RankFactorisation I) (G : RankFactorisation J) → F.size < G.size

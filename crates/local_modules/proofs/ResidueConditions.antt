@@ -1,16 +1,15 @@
 -- What holds modulo an ideal is what holds in the residue ring.
-use Rattle.std.proofs.Common.{ℕ, ◌≡◌, ◌≢◌, ◌⊎◌, inl, inr, sym, ap, ap₂, ◌∙◌, subst}
+use Rattle.std.proofs.Common.{ℕ, ◌≡◌, ◌≢◌, ◌⊎◌, inl, inr, sym, ap, ap₂, ◌∙◌}
 use Rattle.linear_algebra.specs.Field.{Gf, order}
 use Rattle.linear_algebra.specs.Matrix.{Mat, zeros, ◌⊙◌}
-use Rattle.linear_algebra.specs.Rank.{IsInSpan}
 use Rattle.linear_algebra.proofs.Solving.{equal_or_not}
 use Rattle.local_modules.specs.Algebra.{Algebra, Element, power_in, IsUnitIn, IsNilpotentIn}
-use Rattle.local_modules.specs.Ideal.{IsTwoSided, PowerVanishes, IsCongruent, IsCommutativeModulo, IsFrobeniusField, IsUnitModulo, IsListedDivisionRing}
+use Rattle.local_modules.specs.Ideal.{PowerVanishes, IsCongruent, IsCommutativeModulo, IsFrobeniusField, IsUnitModulo, IsListedDivisionRing}
 use Rattle.local_modules.specs.Residue.{ResidueRing}
 use Rattle.local_modules.specs.Certificate.{LocalCertificate}
 use Rattle.local_modules.proofs.AlgebraLaws.{unit_of_right}
 use Rattle.local_modules.proofs.FrobeniusFields.{frobenius_field}
-use Rattle.local_modules.proofs.ResidueRing.{class_of, lift_of, class-lift, class_zeros, class_multiple, class_of_member, member_of_class, class_same, congruent_of_class, Classes, classes_of, residue, ring_product, ring_unit, class_power, member_nilpotent, unit_of_class}
+use Rattle.local_modules.proofs.ResidueRing.{class_of, lift_of, class-lift, class_multiple, class_of_member, member_of_class, class_same, congruent_of_class, Classes, classes_of, residue, ring_product, ring_unit, class_power, member_nilpotent, unit_of_class}
 
 module _ {q : Gf} (A : Algebra q) {k : ℕ} (I : Mat q k A.size) (S : ResidueRing A I) where
   -- The residue ring.

@@ -1,14 +1,17 @@
 -- The residue ring of an algebra modulo a two-sided ideal: coordinates at the places that are no pivots of the ideal, classes and their lifts.
-use Rattle.std.proofs.Common.{ℕ, zero, suc, ◌+◌, ◌*◌, ◌<◌, ◌≤◌, ◌≡◌, ◌≢◌, sym, ap, ap₂, ◌∙◌, arith, subst, refl}
+use Rattle.std.proofs.Common.{ℕ, zero, suc, ◌+◌, ◌*◌, ◌<◌, ◌≡◌, ◌≢◌, sym, ap, ◌∙◌, subst, refl}
 use Rattle.linear_algebra.specs.Field.{Gf, neg}
 use Rattle.linear_algebra.specs.Matrix.{Mat, Row, zeros, one, ◌⊞◌, ◌⊟◌, ◌⊙◌, ◌·◌}
 use Rattle.linear_algebra.specs.Rank.{IsInSpan}
-use Rattle.linear_algebra.specs.RowForm.{CoReducedForm}
-use Rattle.linear_algebra.proofs.MatrixLaws.{mul_assoc_mat, mul_one_mat, mul_zeros, zeros_mul, add_mul_mat, sub_mul_mat, scale_mul, difference, negative_scale, add_swap_mat, negative_sum, negative_negative, sub_eq_zeros, sub_self_mat, add_comm_mat, add_assoc_mat, add_zeros, negative_add, sub_zeros}
+use Rattle.linear_algebra.specs.RowForm.{CoReducedForm, IsRowReduced}
+use Rattle.linear_algebra.proofs.MatrixLaws.{mul_assoc_mat, mul_one_mat, mul_zeros, zeros_mul, add_mul_mat, sub_mul_mat, scale_mul, difference, negative_scale, sub_eq_zeros, sub_self_mat}
 use Rattle.linear_algebra.proofs.Products.{products, sums}
 use Rattle.linear_algebra.proofs.CoReduced.{place_rows, place_rows_undo, coreduced_form}
 use Rattle.linear_algebra.proofs.Families.{in_span_scale, in_span_zeros}
-use Rattle.linear_algebra.proofs.Solving.{in_span_sum}
+use Rattle.linear_algebra.proofs.Solving.{in_span_sum, in_span_self, row_in_span}
+use Rattle.linear_algebra.proofs.PartsLaws.{rows_equal, row-mul, row_zeros}
+use Rattle.linear_algebra.proofs.CoReducedUnique.{pivot_no_place, pivots_and_places}
+use Rattle.linear_algebra.specs.Parts.{row}
 use Rattle.local_modules.specs.Algebra.{Algebra, Element, power_in, product_in, IsUnitIn, IsNilpotentIn}
 use Rattle.local_modules.specs.Ideal.{IsTwoSided, PowerVanishes, IsCongruent}
 use Rattle.local_modules.specs.Residue.{ResidueRing}
@@ -217,3 +220,14 @@ module _ {q : Gf} (A : Algebra q) {k : ℕ} (I : Mat q k A.size) (R : ResidueRin
       where
         up : IsNilpotentIn A (power_in A x n.exponent) → IsNilpotentIn A x
         up m = record { exponent = n.exponent * m.exponent; vanishes = sym (power_in-power A x n.exponent m.exponent) ∙ m.vanishes }
+
+-- The places of the coordinates are those that are no pivots of the ideal.
+module _ {q : Gf} (A : Algebra q) {k : ℕ} (I : Mat q k A.size) (pivot : ℕ → ℕ) (d : IsRowReduced I pivot) (R : ResidueRing A I) where
+  rows_vanish : I · R.class ≡ zeros q k R.ring.size
+  rows_vanish = rows_equal _ _ (λ i l. row-mul i I R.class ∙ R.vanishes (row i I) (row_in_span I I i (in_span_self I)) ∙ sym (row_zeros q k R.ring.size i))
+
+  pub place_no_pivot : (i j : ℕ) → i < k → j < R.ring.size → pivot i ≢ R.place j
+  place_no_pivot i j h l = pivot_no_place I R.class pivot R.place d R.coreduced rows_vanish i j h l
+
+  pub places_are_all : k + R.ring.size ≡ A.size
+  places_are_all = pivots_and_places I R.class pivot R.place d R.coreduced rows_vanish R.kernel

@@ -1,6 +1,5 @@
 -- A span of endomorphisms that contains the identity and is closed under composition is a matrix algebra: it has a basis.
-use Rattle.std.proofs.Common.{ℕ, zero, suc, ◌<◌, ◌≤◌, ◌≡◌, ◌≢◌, inl, inr, sym, ap, ap₂, ◌∙◌, arith, subst, mod-eq_of_lt}
-use mathlib.Core.Path.{fun_ext}
+use Rattle.std.proofs.Common.{ℕ, zero, suc, ◌<◌, ◌≡◌, sym, ap, ap₂, ◌∙◌, arith, subst, mod-eq_of_lt}
 use Rattle.linear_algebra.specs.Field.{Gf}
 use Rattle.linear_algebra.specs.Matrix.{Mat, Row, made, zeros, ◌⊞◌, ◌⊙◌, ◌·◌}
 use Rattle.linear_algebra.specs.Parts.{row}
@@ -15,7 +14,7 @@ use Rattle.linear_algebra.proofs.RowForm.{reduced_form, reduced_independent}
 use Rattle.linear_algebra.proofs.Solving.{in_span_self, in_span_sum, in_span_mul, in_span_trans, row_in_span, right_inverse_cancels}
 use Rattle.representations.specs.Quiver.{Quiver}
 use Rattle.representations.specs.Rep.{Rep}
-use Rattle.representations.specs.Hom.{Hom, ◌≫◌, identity, zero_hom, ◌⊕◌, multiple, sum_of}
+use Rattle.representations.specs.Hom.{Hom, ◌≫◌, identity, zero_hom, multiple, sum_of}
 use Rattle.representations.specs.HomSpace.{unknowns, flat}
 use Rattle.representations.proofs.Homs.{zero_multiple, multiple_compose, compose_multiple, compose_sum_of, sum_of_compose}
 use Rattle.representations.proofs.HomSpace.{flat_injective, flat-sum, flat-multiple}

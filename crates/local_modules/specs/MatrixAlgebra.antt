@@ -1,7 +1,7 @@
 -- Matrix algebras: spaces of endomorphisms of a representation that contain the identity and are closed under composition. Over a quiver without
 -- arrows an endomorphism is any family of square matrices, one at each vertex.
 -- (Assem, Simson, Skowroński, volume 1, chapter I, 1 and 4.)
-use Rattle.std.specs.Prelude.{ℕ, ◌≡◌, ◌<◌, ◌≤◌, refl}
+use Rattle.std.specs.Prelude.{ℕ, ◌≡◌, ◌<◌}
 use Rattle.std.proofs.Common.{sym, ap, ap₂, ◌∙◌, arith}
 use Rattle.linear_algebra.specs.Field.{Gf}
 use Rattle.linear_algebra.specs.Matrix.{Mat, Row, zeros, ◌⊞◌, ◌⊙◌}
