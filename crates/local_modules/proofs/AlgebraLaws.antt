@@ -1,15 +1,15 @@
 -- The laws of an algebra, and its regular representation: the matrix of multiplication by an element from the right.
 use Rattle.std.proofs.Common.{ℕ, zero, suc, ◌+◌, ◌-◌, ◌*◌, ◌<◌, mul-suc, ◌≤◌, ◌≡◌, ◌≢◌, ◌⊎◌, refl, inl, inr, sym, ap, ap₂, ◌∙◌, arith, subst}
-use Rattle.linear_algebra.specs.Field.{Gf, order, neg}
-use Rattle.linear_algebra.specs.Matrix.{Mat, Row, zeros, one, ◌⊞◌, ◌⊟◌, ◌⊙◌, negative, ◌·◌}
+use Rattle.linear_algebra.specs.Field.{Gf, neg}
+use Rattle.linear_algebra.specs.Matrix.{Mat, zeros, one, ◌⊞◌, ◌⊟◌, ◌⊙◌, ◌·◌}
 use Rattle.linear_algebra.specs.Rank.{IsInSpan, HasInverse}
-use Rattle.linear_algebra.specs.Powers.{mat_power, IsNilpotent, FittingParts}
+use Rattle.linear_algebra.specs.Powers.{mat_power, FittingParts}
 use Rattle.linear_algebra.specs.LinearMaps.{IsLinear, matrix_of}
-use Rattle.linear_algebra.proofs.MatrixLaws.{mul_assoc_mat, mul_one_mat, mul_zeros, zeros_mul, mul_add_mat, mul_sub_mat, mul_scale, add_mul_mat, difference, negative_scale, zeros_add}
+use Rattle.linear_algebra.proofs.MatrixLaws.{mul_assoc_mat, mul_one_mat, mul_zeros, mul_add_mat, mul_sub_mat, mul_scale, add_mul_mat, difference, negative_scale, zeros_add}
 use Rattle.linear_algebra.proofs.PartsLaws.{equal_on_rows}
 use Rattle.linear_algebra.proofs.LinearMaps.{mul-matrix_of, linear_zeros}
 use Rattle.linear_algebra.proofs.Dimension.{square_inverse}
-use Rattle.linear_algebra.proofs.Inverses.{one_minus_nilpotent, mat_power-add, mat_power-suc, mat_power-zero}
+use Rattle.linear_algebra.proofs.Inverses.{one_minus_nilpotent, mat_power-suc, mat_power-zero}
 use Rattle.linear_algebra.proofs.Fitting.{fitting, nilpotent_vanishes}
 use Rattle.linear_algebra.proofs.Solving.{in_span_or_not, equal_or_not}
 use Rattle.local_modules.specs.Algebra.{Algebra, Element, power_in, product_in, IsUnitIn, IsNilpotentIn, IsMixed}

@@ -1,8 +1,8 @@
 -- An algebra is commutative where the unit rows commute; whether it is, is decided.
 use Rattle.std.proofs.Common.{ℕ, ◌<◌, ◌≡◌, ◌≢◌, ◌⊎◌, inl, inr, sym, ap, ◌∙◌}
 use Rattle.linear_algebra.specs.Field.{Gf}
-use Rattle.linear_algebra.specs.Matrix.{Mat, ◌·◌}
-use Rattle.linear_algebra.specs.Parts.{row, unit}
+use Rattle.linear_algebra.specs.Matrix.{◌·◌}
+use Rattle.linear_algebra.specs.Parts.{unit}
 use Rattle.linear_algebra.proofs.PartsLaws.{rows_equal, unit_mul}
 use Rattle.linear_algebra.proofs.Search.{search_or_all}
 use Rattle.linear_algebra.proofs.Solving.{equal_or_not}

@@ -1,6 +1,5 @@
 -- Local modules are isomorphic or apart, and it is decided which.
-use Rattle.std.proofs.Common.{ℕ, zero, suc, ◌≡◌, ◌≢◌, ◌<◌, ◌≤◌, ◌⊎◌, inl, inr, refl, sym, ap, ap₂, ◌∙◌, subst, arith}
-use Rattle.std.proofs.lemmas.Bool.{cases_lt}
+use Rattle.std.proofs.Common.{ℕ, zero, suc, ◌≡◌, ◌<◌, ◌≤◌, ◌⊎◌, inl, inr, sym, ap, ap₂, ◌∙◌, subst, arith}
 use Rattle.linear_algebra.specs.Field.{Gf}
 use Rattle.linear_algebra.specs.Matrix.{Row, zeros, ◌⊞◌, ◌⊙◌}
 use Rattle.linear_algebra.specs.Parts.{unit}
@@ -10,7 +9,7 @@ use Rattle.linear_algebra.proofs.LinearMaps.{as_units}
 use Rattle.linear_algebra.proofs.Search.{search_or_all}
 use Rattle.representations.specs.Quiver.{Quiver}
 use Rattle.representations.specs.Rep.{Rep}
-use Rattle.representations.specs.Hom.{Hom, ◌≫◌, ◌⊕◌, identity, zero_hom, multiple, sum_of}
+use Rattle.representations.specs.Hom.{Hom, ◌≫◌, ◌⊕◌, zero_hom, multiple, sum_of}
 use Rattle.representations.specs.Module.{IsIso, IsNilpotent}
 use Rattle.representations.specs.HomSpace.{HomBasis}
 use Rattle.representations.proofs.HomSpace.{hom_basis, coordinates, hom-coordinates, hom_sum, hom_scale}

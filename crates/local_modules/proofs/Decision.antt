@@ -2,13 +2,11 @@
 use Rattle.std.proofs.Common.{ℕ, zero, suc, ◌+◌, ◌*◌, ◌<◌, ◌≤◌, ◌≡◌, ◌≢◌, ◌⊎◌, inl, inr, sym, ap, ◌∙◌, arith, subst}
 use Rattle.std.proofs.lemmas.Bool.{cases_lt}
 use Rattle.linear_algebra.specs.Field.{Gf, order}
-use Rattle.linear_algebra.specs.FieldLaws.{order-pos}
-use Rattle.linear_algebra.specs.Matrix.{Mat, zeros, ◌⊟◌, ◌⊙◌, ◌·◌}
+use Rattle.linear_algebra.specs.Matrix.{Mat, zeros, ◌⊟◌, ◌⊙◌}
 use Rattle.linear_algebra.specs.Rank.{IsInSpan}
-use Rattle.linear_algebra.specs.RowForm.{IsRowReduced, CoReducedForm, ReducedForm}
-use Rattle.linear_algebra.proofs.MatrixLaws.{sub_eq_zeros, mul_zeros}
+use Rattle.linear_algebra.specs.RowForm.{IsRowReduced, ReducedForm}
+use Rattle.linear_algebra.proofs.MatrixLaws.{sub_eq_zeros}
 use Rattle.linear_algebra.proofs.RowForm.{reduced_form, reduced_independent}
-use Rattle.linear_algebra.proofs.CoReduced.{coreduced_form}
 use Rattle.linear_algebra.proofs.Steinitz.{through_none, steinitz}
 use Rattle.linear_algebra.proofs.Families.{in_span_zeros}
 use Rattle.linear_algebra.proofs.Subspaces.{inclusion_size, inclusion_equal}
@@ -16,13 +14,14 @@ use Rattle.linear_algebra.proofs.Search.{search_or_all}
 use Rattle.linear_algebra.proofs.Solving.{equal_or_not, in_span_trans}
 use Rattle.local_modules.specs.Algebra.{Algebra, Element, power_in, product_in, IsUnitIn, IsNilpotentIn, IsMixed}
 use Rattle.local_modules.specs.Ideal.{IsTwoSided, PowerVanishes, IsFrobeniusField, IsListedDivisionRing}
+use Rattle.local_modules.specs.Residue.{ResidueRing}
 use Rattle.local_modules.specs.Certificate.{LocalCertificate}
 use Rattle.local_modules.proofs.AlgebraLaws.{zeros_product, product_zeros, product_in-one, nilpotent_no_unit, classify}
-use Rattle.local_modules.proofs.ResidueRing.{class_of, lift_of, class-lift, class_difference, class_multiple, class_of_member, member_of_class, residue_ring, class_unit, class_nilpotent, member_nilpotent, nilpotent_of_class, unit_of_class}
+use Rattle.local_modules.proofs.ResidueRing.{class_of, lift_of, class-lift, class_difference, class_multiple, class_of_member, member_of_class, Classes, classes_of, residue, ring_unit, class_unit, class_nilpotent, member_nilpotent, nilpotent_of_class}
 use Rattle.local_modules.proofs.FrobeniusFields.{power_of_unit, reduced_ring}
 use Rattle.local_modules.proofs.FixedElements.{shifts_not_all_units, fixed_or_scalars, root_or_injective}
 use Rattle.local_modules.proofs.Commutative.{commutative_or_not}
-use Rattle.local_modules.proofs.ResidueConditions.{commutes_residue, commutes_modulo, frobenius_modulo, unit_modulo}
+use Rattle.local_modules.proofs.ResidueConditions.{commutes_residue, frobenius_modulo, unit_modulo}
 use Rattle.local_modules.proofs.NilIdeals.{nil_right_ideal}
 use Rattle.local_modules.proofs.IdealGrowth.{enlarged, enlarged-has, enlarged-has_element, enlarged-two_sided, enlarged_power}
 use Rattle.local_modules.proofs.IdealPowers.{least_power, two_sided_same, power_same}
@@ -72,11 +71,14 @@ module _ {q : Gf} (A : Algebra q) where
     abbrev Larger : Type 0
     Larger = (K : NilpotentIdeal A) × (J.count < K.count)
 
-    abbrev C : CoReducedForm J.ideal
-    C = coreduced_form J.ideal
+    abbrev S : ResidueRing A J.ideal
+    S = residue A J.ideal J.two_sided
+
+    abbrev C : Classes J.ideal
+    C = classes_of S
 
     abbrev R : Algebra q
-    R = residue_ring A J.ideal C J.two_sided
+    R = S.ring
 
     -- A nilpotent element that is not in the ideal makes it larger, or gives an element of neither kind.
     larger_by : (x : Element A) → (IsInSpan J.ideal x → ⊥) → ((y : ℕ → Element A) → product_in A (λ i. A.product x (y i)) A.size ≡ zeros q 1 A.size) → Larger
@@ -120,7 +122,7 @@ module _ {q : Gf} (A : Algebra q) where
 
     -- The residue ring is not zero.
     residue_nonzero : R.unit ≢ zeros q 1 C.size
-    residue_nonzero e = nilpotent_no_unit A nonzero A.unit (member_nilpotent A J.ideal C J.two_sided J.power J.vanishes A.unit (member_of_class A J.ideal C A.unit e))
+    residue_nonzero e = nilpotent_no_unit A nonzero A.unit (member_nilpotent A J.ideal J.power J.vanishes A.unit (member_of_class A J.ideal C A.unit (ring_unit A J.ideal S ∙ e)))
         (record { inverse = A.unit; right = A.unit_product A.unit; left = A.unit_product A.unit })
 
     certificate : IsFrobeniusField A J.ideal ⊎ IsListedDivisionRing A J.ideal → LocalCertificate A
@@ -139,7 +141,7 @@ module _ {q : Gf} (A : Algebra q) where
     module _ (commutes : (x y : Element R) → R.product x y ≡ R.product y x) where
       root_case : (y : Element R) → y ≢ zeros q 1 C.size → power_in R y (order q) ≡ zeros q 1 C.size → HasMixed ⊎ Larger
       root_case y n e = grow (lift_of A J.ideal C y)
-          (nilpotent_of_class A J.ideal C J.two_sided J.power J.vanishes (lift_of A J.ideal C y)
+          (nilpotent_of_class A J.ideal S J.power J.vanishes (lift_of A J.ideal C y)
           (record { exponent = order q; vanishes = ap (λ z. power_in R z (order q)) (class-lift A J.ideal C y) ∙ e }))
           (lift_not_member y n)
 
@@ -149,7 +151,7 @@ module _ {q : Gf} (A : Algebra q) where
 
         class-shifted : (y : Element R) (c : ℕ) → class_of A J.ideal C (shifted y c) ≡ y ⊟ c ⊙ R.unit
         unfolding shifted
-        class-shifted y c = class_difference A J.ideal C (lift_of A J.ideal C y) (c ⊙ A.unit) ∙ simp (class-lift A J.ideal C y, class_multiple A J.ideal C c A.unit)
+        class-shifted y c = class_difference A J.ideal C (lift_of A J.ideal C y) (c ⊙ A.unit) ∙ simp (class-lift A J.ideal C y, class_multiple A J.ideal C c A.unit, ring_unit A J.ideal S)
 
         fixed_case : (y : Element R) → power_in R y (order q) ≡ y → ((c : ℕ) → c < order q → y ≢ c ⊙ R.unit) → HasMixed
         fixed_case y e n = elim (search_or_all (order q) (λ c. IsMixed A (shifted y c)) (λ c. IsUnitIn A (shifted y c) ⊎ IsNilpotentIn A (shifted y c)) kinds) [
@@ -161,13 +163,13 @@ module _ {q : Gf} (A : Algebra q) where
             kinds c = elim (classify A (shifted y c)) [ inl i ↦ inr (inl i) | inr m ↦ elim m [ inl p ↦ inr (inr p) | inr x ↦ inl x ] ]
 
             unit : (c : ℕ) → c < order q → IsUnitIn A (shifted y c) ⊎ IsNilpotentIn A (shifted y c) → IsUnitIn R (y ⊟ c ⊙ R.unit)
-            unit c l (inl i) = subst (IsUnitIn R) (class-shifted y c) (class_unit A J.ideal C J.two_sided (shifted y c) i)
-            unit c l (inr p) = absurd (n c l (sub_eq_zeros y (c ⊙ R.unit) (reduced_ring R injective (y ⊟ c ⊙ R.unit) (subst (IsNilpotentIn R) (class-shifted y c) (class_nilpotent A J.ideal C J.two_sided (shifted y c) p)))))
+            unit c l (inl i) = subst (IsUnitIn R) (class-shifted y c) (class_unit A J.ideal S (shifted y c) i)
+            unit c l (inr p) = absurd (n c l (sub_eq_zeros y (c ⊙ R.unit) (reduced_ring R injective (y ⊟ c ⊙ R.unit) (subst (IsNilpotentIn R) (class-shifted y c) (class_nilpotent A J.ideal S (shifted y c) p)))))
 
         injective_case : HasMixed ⊎ LocalCertificate A
         injective_case = elim (fixed_or_scalars R) [
           | inl f ↦ inl (fixed_case f.0 f.1 f.2)
-          | inr all ↦ inr (certificate (inl (frobenius_modulo A J.ideal C J.two_sided commutes injective R.unit residue_nonzero (power_of_unit R (order q)) all)))
+          | inr all ↦ inr (certificate (inl (frobenius_modulo A J.ideal S commutes injective R.unit residue_nonzero (power_of_unit R (order q)) all)))
         ]
 
       commutative_case : HasMixed ⊎ Larger ⊎ LocalCertificate A
@@ -199,8 +201,8 @@ module _ {q : Gf} (A : Algebra q) where
     other_case n = elim (search_rows C.size Odd Even odd_or_even) [
       | inl s ↦ elim (odd_case s.0 s.1) [ inl m ↦ inl m | inr l ↦ inr (inl l) ]
       | inr all ↦ inr (inr (certificate (inr (record {
-        not_commutative = λ c. n (commutes_residue A J.ideal C J.two_sided c);
-        inverses = λ x m. unit_modulo A J.ideal C J.two_sided x (subst (IsUnitIn R) (class-lift A J.ideal C (class_of A J.ideal C x)) (class_unit A J.ideal C J.two_sided (lift_of A J.ideal C (class_of A J.ideal C x)) (even x m (all (class_of A J.ideal C x)))));
+        not_commutative = λ c. n (commutes_residue A J.ideal S c);
+        inverses = λ x m. unit_modulo A J.ideal S x (subst (IsUnitIn R) (class-lift A J.ideal C (class_of A J.ideal C x)) (class_unit A J.ideal S (lift_of A J.ideal C (class_of A J.ideal C x)) (even x m (all (class_of A J.ideal C x)))));
       }))))
     ]
       where

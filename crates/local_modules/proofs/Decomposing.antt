@@ -1,5 +1,5 @@
 -- Each module is a direct sum of local modules: a module that is neither zero nor local is split, and its two parts are decomposed.
-use Rattle.std.proofs.Common.{ℕ, zero, suc, ◌+◌, ◌-◌, ◌<◌, ◌≤◌, ◌≡◌, ◌≢◌, ◌⊎◌, inl, inr, refl, sym, ap, ap₂, ◌∙◌, arith, subst}
+use Rattle.std.proofs.Common.{ℕ, zero, suc, ◌+◌, ◌-◌, ◌<◌, ◌≤◌, ◌≡◌, ◌⊎◌, inl, inr, refl, sym, ap, ap₂, ◌∙◌, arith, subst}
 use Rattle.std.proofs.lemmas.Bool.{cases_lt}
 use Rattle.linear_algebra.specs.Field.{Gf}
 use Rattle.linear_algebra.specs.BlockFamilies.{total}
@@ -9,13 +9,17 @@ use Rattle.linear_algebra.proofs.Inverses.{inverse_sizes}
 use Rattle.representations.specs.Quiver.{Quiver}
 use Rattle.representations.specs.Rep.{Rep}
 use Rattle.representations.specs.Hom.{Hom, Hom-eq, ◌≫◌, ◌⊕◌, identity, zero_hom}
-use Rattle.representations.specs.Module.{Summand, Orthogonal, Biproduct, IsIso, IsZero}
-use Rattle.representations.specs.Sum.{sum_rep, into_first, into_second, onto_first, onto_second}
-use Rattle.representations.proofs.Homs.{compose_assoc, compose_identity, identity_compose, compose_zero, zero_compose}
+use Rattle.representations.specs.Module.{Summand, Orthogonal, IsIso, IsZero}
+use Rattle.representations.specs.Sum.{sum_family, sum_rep, into_first, into_second, onto_first, onto_second}
+use Rattle.representations.proofs.Homs.{compose_assoc, compose_identity, compose_zero, zero_compose}
 use Rattle.representations.proofs.Endomorphisms.{iso_at}
 use Rattle.representations.proofs.Sums.{first_first, second_second, first_second, second_first, whole_sum}
 use Rattle.representations.proofs.HomSpace.{hom_basis}
 use Rattle.representations.proofs.Biproducts.{with_sum, no_parts, one_part, join_parts, carried, transported, carried-count, carried-part, join_parts-first, join_parts-second, join_parts-count, transported-summand, transported-count}
+use Rattle.representations.proofs.SumFamilies.{from_family, sum_of_parts}
+use Rattle.local_modules.specs.Isomorphic.{Matching}
+use Rattle.local_modules.proofs.LocalRings.{iso_compose}
+use Rattle.local_modules.proofs.KrullSchmidt.{krull_schmidt}
 use Rattle.local_modules.specs.Local.{IsLocal}
 use Rattle.local_modules.specs.Splitting.{HasRows, ProperSplitting}
 use Rattle.local_modules.specs.Decomposition.{LocalDecomposition}
@@ -148,3 +152,17 @@ module _ {q : Gf} {Q : Quiver} where
   -- Each module is a direct sum of local modules.
   pub decompose : (X : Rep q Q) → LocalDecomposition X
   decompose X = go (size_of X) X (omega arith)
+
+-- Two decompositions of a module into local modules match.
+pub decompositions_match : {q : Gf} {Q : Quiver} (X : Rep q Q) (D E : LocalDecomposition X)
+    → Matching D.parts.count (λ i. (D.parts.summand i).part) E.parts.count (λ i. (E.parts.summand i).part)
+decompositions_match {q} {Q} X D E = krull_schmidt D.parts.count E.parts.count (λ i. (D.parts.summand i).part) (λ i. (E.parts.summand i).part) D.local E.local (f ≫ i.inverse) through
+  where
+    f : Hom (sum_family D.parts.count (λ i. (D.parts.summand i).part)) X
+    f = from_family D.parts.count (λ i. (D.parts.summand i).part) (λ i. (D.parts.summand i).injection)
+
+    i : IsIso (from_family E.parts.count (λ i. (E.parts.summand i).part) (λ i. (E.parts.summand i).injection))
+    i = sum_of_parts E.parts
+
+    through : IsIso (f ≫ i.inverse)
+    through = iso_compose f i.inverse (sum_of_parts D.parts) (record { inverse = from_family E.parts.count (λ i. (E.parts.summand i).part) (λ i. (E.parts.summand i).injection); right = i.left; left = i.right })

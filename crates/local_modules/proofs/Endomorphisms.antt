@@ -1,17 +1,17 @@
 -- Members of a matrix algebra and their coordinates: isomorphisms and nilpotent endomorphisms are the invertible and the nilpotent elements; a
 -- module is local exactly where its endomorphism algebra has a certificate.
-use Rattle.std.proofs.Common.{ℕ, zero, suc, ◌<◌, ◌≤◌, ◌≡◌, ◌≢◌, ◌⊎◌, inl, inr, sym, ap, refl, arith, ◌∙◌, subst}
+use Rattle.std.proofs.Common.{ℕ, zero, suc, ◌≡◌, ◌≢◌, ◌⊎◌, inl, inr, sym, ap, refl, arith, ◌∙◌, subst}
 use Rattle.linear_algebra.specs.Field.{Gf}
 use Rattle.linear_algebra.specs.Matrix.{zeros, one, delta-same}
 use Rattle.linear_algebra.proofs.MatrixLaws.{zero_scale, one-at}
 use Rattle.representations.specs.Quiver.{Quiver}
 use Rattle.representations.specs.Rep.{Rep}
-use Rattle.representations.specs.Hom.{Hom, ◌≫◌, identity, zero_hom, power}
+use Rattle.representations.specs.Hom.{Hom, ◌≫◌, zero_hom, power}
 use Rattle.representations.specs.Module.{IsIso, IsNilpotent, IsZero}
 use Rattle.representations.specs.HomSpace.{HomBasis}
 use Rattle.representations.proofs.Homs.{power-zero, power-suc, zero_multiple, same-at, identity-at, zero_hom-at}
 use Rattle.representations.proofs.HomSpace.{coordinates, hom-coordinates}
-use Rattle.local_modules.specs.Algebra.{Algebra, Element, power_in, IsUnitIn, IsNilpotentIn, IsMixed}
+use Rattle.local_modules.specs.Algebra.{Algebra, Element, power_in, IsUnitIn, IsNilpotentIn}
 use Rattle.local_modules.specs.MatrixAlgebra.{MatrixAlgebra, algebra_of, endomorphisms, endomorphism_algebra}
 use Rattle.local_modules.specs.Certificate.{LocalCertificate}
 use Rattle.local_modules.specs.Local.{IsLocal}

@@ -1,11 +1,10 @@
 -- Fitting's lemma: an endomorphism is an isomorphism, or nilpotent, or it splits the module properly. (Assem, Simson, Skowroński, volume 1,
 -- chapter I, 4.)
-use Rattle.std.proofs.Common.{ℕ, zero, suc, ◌+◌, ◌≡◌, ◌≢◌, ◌<◌, ◌≤◌, ◌⊎◌, inl, inr, refl, sym, ap, ap₂, ◌∙◌, subst, arith}
+use Rattle.std.proofs.Common.{ℕ, suc, ◌≡◌, ◌≢◌, ◌≤◌, ◌⊎◌, inl, inr, refl, sym, ap, ◌∙◌, subst, arith}
 use Rattle.std.proofs.lemmas.Bool.{cases_lt}
 use Rattle.linear_algebra.specs.Field.{Gf}
-use Rattle.linear_algebra.specs.Matrix.{Mat, Row, zeros, stack, ◌·◌}
-use Rattle.linear_algebra.specs.Rank.{IsInSpan, HasInverse, Complement}
-use Rattle.linear_algebra.specs.Powers.{mat_power}
+use Rattle.linear_algebra.specs.Matrix.{zeros, stack, ◌·◌}
+use Rattle.linear_algebra.specs.Rank.{HasInverse, Complement}
 use Rattle.linear_algebra.specs.BlockFamilies.{total}
 use Rattle.linear_algebra.proofs.MatrixLaws.{mul_assoc_mat, zeros_mul}
 use Rattle.linear_algebra.proofs.BlockFamilies.{total_grows}
@@ -24,7 +23,7 @@ use Rattle.representations.specs.Kernel.{kernel}
 use Rattle.representations.specs.Sum.{sum_rep, into_first, into_second, onto_first, onto_second, from_sum}
 use Rattle.representations.proofs.Homs.{compose-at, zero_hom-at, same-at, compose_assoc, compose_identity, identity_compose, compose_zero, zero_compose, power-at, power-suc}
 use Rattle.representations.proofs.Endomorphisms.{iso_by_vertices}
-use Rattle.representations.proofs.Sums.{first_first, second_second, first_second, second_first}
+use Rattle.representations.proofs.Sums.{first_first, second_second, second_first}
 use Rattle.local_modules.specs.Local.{IsLocal}
 use Rattle.local_modules.specs.Splitting.{HasRows, ProperSplitting}
 use Rattle.local_modules.proofs.LocalRings.{identity_not_zero, idempotents}

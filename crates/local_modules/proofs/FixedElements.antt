@@ -2,11 +2,10 @@
 -- multiples of 1, and whether taking q-th powers is injective, is decided.
 use Rattle.std.proofs.Common.{ℕ, zero, suc, ◌<◌, ◌≤◌, ◌≡◌, ◌≢◌, ◌⊎◌, inl, inr, sym, ap, ap₂, ◌∙◌, arith, subst}
 use Rattle.linear_algebra.specs.Field.{Gf, order}
-use Rattle.linear_algebra.specs.Matrix.{Mat, zeros, one, ◌⊟◌, ◌⊙◌, ◌·◌}
+use Rattle.linear_algebra.specs.Matrix.{zeros, one, ◌⊟◌, ◌⊙◌, ◌·◌}
 use Rattle.linear_algebra.specs.Rank.{HasInverse}
 use Rattle.linear_algebra.specs.Powers.{shifts}
-use Rattle.linear_algebra.specs.LinearMaps.{IsLinear}
-use Rattle.linear_algebra.proofs.MatrixLaws.{mul_zeros, mul_one_mat, mul_sub_mat, mul_scale, scale-mod, sub_eq_zeros, sub_self_mat, zeros_mul}
+use Rattle.linear_algebra.proofs.MatrixLaws.{mul_zeros, mul_one_mat, mul_sub_mat, mul_scale, sub_eq_zeros, sub_self_mat, zeros_mul}
 use Rattle.linear_algebra.proofs.PartsLaws.{equal_on_rows}
 use Rattle.linear_algebra.proofs.Frobenius.{product_of_shifts}
 use Rattle.linear_algebra.proofs.Inverses.{one_inverse, inverse_product}

@@ -1,16 +1,16 @@
 -- Commutative algebras over a field of q elements: q-th powers are additive; where taking q-th powers is injective and its fixed elements are the
 -- multiples of one element, each element but zero is invertible.
-use Rattle.std.proofs.Common.{ℕ, zero, suc, ◌+◌, ◌-◌, ◌*◌, ◌%◌, ◌<◌, ◌≤◌, ◌≡◌, ◌≢◌, ◌⊎◌, inl, inr, refl, sym, ap, ap₂, ◌∙◌, arith, subst, mul-suc, mod-lt, mul-le-mul_right, mul_comm}
+use Rattle.std.proofs.Common.{ℕ, zero, suc, ◌-◌, ◌*◌, ◌%◌, ◌≤◌, ◌≡◌, ◌≢◌, ◌⊎◌, inl, inr, sym, ap, ap₂, ◌∙◌, arith, mod-lt, mul-le-mul_right, mul_comm}
 use Rattle.std.proofs.lemmas.Bool.{cases_eq}
 use Rattle.linear_algebra.specs.Field.{Gf, order, mul, inv}
 use Rattle.linear_algebra.specs.FieldLaws.{one-lt-order, order-pos, inv_mul}
-use Rattle.linear_algebra.specs.Matrix.{Mat, Row, zeros, one, ◌⊞◌, ◌⊟◌, ◌⊙◌, ◌·◌}
+use Rattle.linear_algebra.specs.Matrix.{Mat, zeros, ◌⊞◌, ◌⊙◌, ◌·◌}
 use Rattle.linear_algebra.specs.Powers.{mat_power}
 use Rattle.linear_algebra.specs.LinearMaps.{IsLinear}
-use Rattle.linear_algebra.proofs.MatrixLaws.{mul_add_mat, mul_scale, scale_scale, scale-mod, zero_scale, one_scale, scale_zeros}
+use Rattle.linear_algebra.proofs.MatrixLaws.{mul_add_mat, mul_scale, scale_scale, scale-mod, zero_scale, one_scale}
 use Rattle.linear_algebra.proofs.Frobenius.{frobenius_sum, frobenius_multiple}
 use Rattle.local_modules.specs.Algebra.{Algebra, Element, power_in, IsUnitIn, IsNilpotentIn}
-use Rattle.local_modules.proofs.AlgebraLaws.{zeros_product, product_zeros, power_in-zero, power_in-suc, power_in-one, power_in-last, power_in-power, power_past, right_matrix, right_matrix-product, right_matrix-sum, right_matrix-multiple, power_is, settles, unit_of_left}
+use Rattle.local_modules.proofs.AlgebraLaws.{zeros_product, power_in-zero, power_in-suc, power_in-one, power_in-last, power_in-power, power_past, right_matrix, right_matrix-product, right_matrix-sum, right_matrix-multiple, power_is, settles, unit_of_left}
 
 -- The multiple of an element by a number is zero or can be undone.
 pub scalar_or_zero : (q : Gf) (m n c : ℕ) → ((a : Mat q m n) → c ⊙ a ≡ zeros q m n) ⊎ ((d : ℕ) × ((a : Mat q m n) → d ⊙ (c ⊙ a) ≡ a))

@@ -1,22 +1,22 @@
 -- In a commutative algebra, whether taking q-th powers is injective, and whether its fixed elements have dimension 1, is a condition on ranks.
-use Rattle.std.proofs.Common.{ℕ, zero, suc, ◌+◌, ◌<◌, ◌≤◌, ◌≡◌, ◌≢◌, ◌⊎◌, inl, inr, sym, ap, ap₂, ◌∙◌, arith, subst}
+use Rattle.std.proofs.Common.{ℕ, ◌+◌, ◌≤◌, ◌≡◌, ◌≢◌, inl, inr, sym, ap, ap₂, ◌∙◌, arith, subst}
 use Rattle.std.proofs.lemmas.Bool.{cases_lt}
 use Rattle.linear_algebra.specs.Field.{Gf, order}
 use Rattle.linear_algebra.specs.Matrix.{Mat, Row, zeros, one, ◌⊟◌, ◌⊙◌, ◌·◌}
 use Rattle.linear_algebra.specs.Parts.{row}
 use Rattle.linear_algebra.specs.Rank.{IsInSpan, Complement}
-use Rattle.linear_algebra.specs.LinearMaps.{IsLinear, matrix_of}
-use Rattle.linear_algebra.proofs.MatrixLaws.{mul_assoc_mat, mul_one_mat, mul_zeros, zeros_mul, mul_sub_mat, sub_mul_mat, sub_eq_zeros, sub_self_mat}
+use Rattle.linear_algebra.specs.LinearMaps.{matrix_of}
+use Rattle.linear_algebra.proofs.MatrixLaws.{mul_assoc_mat, mul_one_mat, zeros_mul, mul_sub_mat, sub_mul_mat, sub_eq_zeros, sub_self_mat}
 use Rattle.linear_algebra.proofs.PartsLaws.{scalar_mul, row-mul, row_zeros}
 use Rattle.linear_algebra.proofs.LinearMaps.{mul-matrix_of}
-use Rattle.linear_algebra.proofs.Solving.{injective_right_inverse, right_inverse_injective, in_span_by_rows, in_span_self, zeros_not_one}
+use Rattle.linear_algebra.proofs.Solving.{injective_right_inverse, in_span_by_rows, in_span_self, zeros_not_one}
 use Rattle.linear_algebra.proofs.Families.{in_span_scale}
 use Rattle.linear_algebra.proofs.Steinitz.{steinitz}
 use Rattle.linear_algebra.proofs.Subspaces.{through_zero}
 use Rattle.linear_algebra.proofs.Dimension.{complement, kernel_spans, rank, rank_is}
 use Rattle.linear_algebra.proofs.Ranks.{rank_right_inverse}
 use Rattle.local_modules.specs.Algebra.{Algebra, Element, power_in}
-use Rattle.local_modules.proofs.FrobeniusFields.{frobenius_linear, power_of_zeros}
+use Rattle.local_modules.proofs.FrobeniusFields.{frobenius_linear}
 
 -- The rows that f takes to zero are zero exactly where the rank of f is their length; they are the multiples of one row that is not zero exactly
 -- where the rank is one less.
@@ -66,11 +66,10 @@ module _ {q : Gf} {n k : ℕ} (f : Mat q n k) where
 
 module _ {q : Gf} (A : Algebra q) (commutes : (x y : Element A) → A.product x y ≡ A.product y x) where
   -- The matrix of taking q-th powers.
-  unfoldable pub frobenius_matrix : Mat q A.size A.size
+  abbrev pub frobenius_matrix : Mat q A.size A.size
   frobenius_matrix = matrix_of (λ (x : Element A). power_in A x (order q))
 
   pub mul-frobenius : (x : Element A) → x · frobenius_matrix ≡ power_in A x (order q)
-  unfolding frobenius_matrix
   mul-frobenius x = mul-matrix_of (λ (x : Element A). power_in A x (order q)) (frobenius_linear A commutes) x
 
   pub injective_rank : ((x y : Element A) → power_in A x (order q) ≡ power_in A y (order q) → x ≡ y) → rank frobenius_matrix ≡ A.size

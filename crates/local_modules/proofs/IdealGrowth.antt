@@ -1,22 +1,20 @@
 -- An ideal made larger: I + A·x·A is a two-sided ideal, and some power of it is zero where one of I is and products of members of x·A vanish.
-use Rattle.std.proofs.Common.{ℕ, zero, suc, ◌+◌, ◌*◌, ◌<◌, ◌≤◌, ◌≡◌, ◌≢◌, ◌⊎◌, inl, inr, refl, sym, ap, ap₂, ◌∙◌, arith, subst, mul-suc, mul_comm, mul-le-mul_right, not-suc-le-zero}
-use Rattle.std.proofs.lemmas.Bool.{cases_eq}
+use Rattle.std.proofs.Common.{ℕ, zero, suc, ◌+◌, ◌*◌, ◌<◌, ◌≡◌, refl, sym, ap, ap₂, ◌∙◌, arith, subst, mul-suc, mul_comm, mul-le-mul_right, not-suc-le-zero}
 use Rattle.linear_algebra.specs.Field.{Gf}
-use Rattle.linear_algebra.specs.Matrix.{Mat, Row, zeros, one, ◌⊞◌, ◌⊙◌, ◌·◌, stack}
+use Rattle.linear_algebra.specs.Matrix.{Mat, Row, zeros, one, ◌·◌, stack}
 use Rattle.linear_algebra.specs.Parts.{row, unit}
 use Rattle.linear_algebra.specs.Rank.{IsInSpan, Subspace}
-use Rattle.linear_algebra.specs.Families.{IsCombination}
 use Rattle.linear_algebra.proofs.MatrixLaws.{mul_assoc_mat, mul_one_mat}
 use Rattle.linear_algebra.proofs.Blocks.{stack_mul}
 use Rattle.linear_algebra.proofs.PartsLaws.{row-mul, unit_mul}
 use Rattle.linear_algebra.proofs.LinearMaps.{as_units}
 use Rattle.linear_algebra.proofs.Solving.{in_span_self, in_span_trans, in_span_mul, in_span_image, in_span_by_rows, row_in_span}
 use Rattle.linear_algebra.proofs.Families.{in_span_zeros, sum_of_spaces-least, image_under, image_under-combination}
-use Rattle.linear_algebra.proofs.Subspaces.{span_of, span_of-spans, span_of-spanned, inclusion_size, inclusion_equal}
-use Rattle.representations.specs.StackSpans.{stack_has_first, stack_has_second, stack_all_least}
-use Rattle.local_modules.specs.Algebra.{Algebra, Element, power_in, product_in, IsUnitIn, IsNilpotentIn, IsMixed}
+use Rattle.linear_algebra.proofs.Subspaces.{span_of, span_of-spans, span_of-spanned}
+use Rattle.representations.specs.StackSpans.{stack_has_first, stack_has_second}
+use Rattle.local_modules.specs.Algebra.{Algebra, Element, product_in}
 use Rattle.local_modules.specs.Ideal.{IsTwoSided, PowerVanishes}
-use Rattle.local_modules.proofs.AlgebraLaws.{right_matrix, left_matrix, mul-right_matrix, mul-left_matrix, product_in-add, product_in-same, product_in-none, product_in-one, product_in-last, product_in-blocks, zeros_product}
+use Rattle.local_modules.proofs.AlgebraLaws.{right_matrix, left_matrix, mul-right_matrix, mul-left_matrix, product_in-same, product_in-none, product_in-one, product_in-last, product_in-blocks, zeros_product}
 use Rattle.local_modules.proofs.NilIdeals.{matrix_of_combination}
 
 block_below : (d s j i : ℕ) → j < s → i < d → d * j + i < d * s

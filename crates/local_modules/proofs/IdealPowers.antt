@@ -1,5 +1,5 @@
 -- Whether a power of an ideal is zero is decided; the least such power; the same ideal by other rows.
-use Rattle.std.proofs.Common.{ℕ, zero, suc, ◌+◌, ◌-◌, ◌<◌, ◌≤◌, ◌≡◌, ◌≢◌, ◌⊎◌, inl, inr, sym, ap, ◌∙◌, arith, subst}
+use Rattle.std.proofs.Common.{ℕ, zero, suc, ◌<◌, ◌≤◌, ◌⊎◌, inl, inr, sym, ap, ◌∙◌, arith}
 use Rattle.std.proofs.lemmas.Bool.{cases_lt}
 use Rattle.linear_algebra.specs.Field.{Gf}
 use Rattle.linear_algebra.specs.Matrix.{Mat, zeros}
@@ -9,7 +9,7 @@ use Rattle.linear_algebra.proofs.Search.{first_or_all}
 use Rattle.linear_algebra.proofs.Solving.{equal_or_not, in_span_self, in_span_trans, row_in_span}
 use Rattle.linear_algebra.proofs.NilOrFixed.{whole, images}
 use Rattle.linear_algebra.proofs.FamilyPowers.{images_vanish, vanishing_images}
-use Rattle.local_modules.specs.Algebra.{Algebra, Element, product_in}
+use Rattle.local_modules.specs.Algebra.{Algebra}
 use Rattle.local_modules.specs.Ideal.{IsTwoSided, PowerVanishes, IsLeastPower}
 use Rattle.local_modules.proofs.AlgebraLaws.{right_matrix, right_matrix-zeros, right_matrix_injective, product_in-last, zeros_product}
 use Rattle.local_modules.proofs.NilIdeals.{right_matrix-product_in, matrix_in_span}

@@ -1,5 +1,5 @@
 -- The Krull-Schmidt theorem: two lists of local modules with isomorphic direct sums match. (Assem, Simson, Skowroński, volume 1, chapter I, 4.)
-use Rattle.std.proofs.Common.{ℕ, zero, suc, ◌≡◌, ◌≢◌, ◌<◌, ◌≤◌, ◌+◌, ◌⊎◌, inl, inr, refl, sym, ap, ap₂, ◌∙◌, subst, arith, cond, ltb}
+use Rattle.std.proofs.Common.{ℕ, zero, suc, ◌≡◌, ◌≢◌, ◌<◌, ◌≤◌, inl, inr, refl, sym, ap, ap₂, ◌∙◌, subst, arith, cond, ltb}
 use Rattle.std.proofs.lemmas.Bool.{cases_lt, cases_eq, cond-true, cond-false, lt-ltb, le-ltb}
 use Rattle.linear_algebra.specs.Field.{Gf}
 use Rattle.linear_algebra.proofs.Blocks.{no_columns}
@@ -7,8 +7,8 @@ use Rattle.representations.specs.Quiver.{Quiver}
 use Rattle.representations.specs.Rep.{Rep}
 use Rattle.representations.specs.Hom.{Hom, Hom-eq, ◌≫◌, ◌⊕◌, identity, zero_hom, sum_of}
 use Rattle.representations.specs.Module.{IsIso}
-use Rattle.representations.specs.Sum.{sum_family, sum_rep, zero_rep}
-use Rattle.representations.proofs.Homs.{compose_assoc, compose_identity, identity_compose, compose_zero, zero_compose, sum_comm, sum_assoc, zero_sum, sum_of-same, compose_sum_of, sum_of_compose}
+use Rattle.representations.specs.Sum.{sum_family, zero_rep}
+use Rattle.representations.proofs.Homs.{compose_assoc, compose_identity, identity_compose, zero_compose, sum_comm, sum_assoc, sum_of-same, compose_sum_of, sum_of_compose}
 use Rattle.representations.proofs.Biproducts.{sum_of-none, sum_of-suc}
 use Rattle.representations.proofs.SumFamilies.{from_family, into_family, family_through, family_back, compose_into_family, from_family_compose, from_family-same, from_family-zeros, into_family-same, into_family-zeros}
 use Rattle.projectives.specs.Families.{family_in}

@@ -1,15 +1,14 @@
 -- Endomorphisms of a local module: those without an inverse are nilpotent, and closed under sums and under products with any endomorphism.
-use Rattle.std.proofs.Common.{ℕ, zero, suc, ◌≡◌, ◌≢◌, ◌<◌, ◌⊎◌, inl, inr, refl, sym, ap, ap₂, ◌∙◌, subst, arith}
+use Rattle.std.proofs.Common.{ℕ, zero, suc, ◌≡◌, ◌≢◌, ◌⊎◌, inl, inr, refl, sym, ap, ◌∙◌, subst, arith}
 use Rattle.linear_algebra.specs.Field.{Gf}
 use Rattle.linear_algebra.specs.Matrix.{Mat, zeros, one, ◌·◌, delta-same}
-use Rattle.linear_algebra.specs.Rank.{HasInverse}
 use Rattle.linear_algebra.proofs.MatrixLaws.{one-at}
 use Rattle.linear_algebra.proofs.Inverses.{right_inverse_first, left_inverse_second, right_inverse_square, left_inverse_square}
 use Rattle.representations.specs.Quiver.{Quiver}
 use Rattle.representations.specs.Rep.{Rep}
 use Rattle.representations.specs.Hom.{Hom, ◌≫◌, ◌⊕◌, identity, zero_hom, negative_hom, multiple, power}
 use Rattle.representations.specs.Module.{IsIso, IsNilpotent}
-use Rattle.representations.proofs.Homs.{compose-at, identity-at, zero_hom-at, same-at, compose_assoc, compose_identity, identity_compose, compose_zero, zero_compose, sum_comm, sum_assoc, sum_zero, sum_negative, negative_add_hom, compose_sum, sum_compose, compose_negative, negative_compose, compose_multiple, one_multiple, power-zero, power-suc}
+use Rattle.representations.proofs.Homs.{compose-at, identity-at, zero_hom-at, same-at, compose_assoc, compose_identity, identity_compose, compose_zero, zero_compose, sum_assoc, sum_zero, sum_negative, negative_add_hom, sum_compose, compose_negative, compose_multiple, power-zero, power-suc}
 use Rattle.representations.proofs.Endomorphisms.{iso_by_vertices, iso_at, one_minus_nilpotent_hom}
 use Rattle.local_modules.specs.Local.{IsLocal}
 

@@ -1,10 +1,10 @@
 -- Nil right ideals: for a nilpotent x either all products of members of x·A, as many as the dimension of A, are zero, or x·A has a member that is
 -- neither invertible nor nilpotent.
-use Rattle.std.proofs.Common.{ℕ, zero, suc, ◌+◌, ◌<◌, ◌≤◌, ◌≡◌, ◌≢◌, ◌⊎◌, inl, inr, refl, sym, ap, ap₂, ◌∙◌, arith, subst}
+use Rattle.std.proofs.Common.{ℕ, zero, suc, ◌≡◌, ◌≢◌, ◌⊎◌, inl, inr, sym, ap, ◌∙◌, subst}
 use Rattle.linear_algebra.specs.Field.{Gf}
-use Rattle.linear_algebra.specs.Matrix.{Mat, Row, zeros, one, ◌⊞◌, ◌⊙◌, ◌·◌}
+use Rattle.linear_algebra.specs.Matrix.{Mat, zeros, ◌·◌}
 use Rattle.linear_algebra.specs.Parts.{row, unit}
-use Rattle.linear_algebra.specs.Rank.{IsInSpan, Subspace}
+use Rattle.linear_algebra.specs.Rank.{IsInSpan}
 use Rattle.linear_algebra.specs.Powers.{mat_power}
 use Rattle.linear_algebra.specs.Families.{combine, IsCombination, ordered_product, HasFixedRow}
 use Rattle.linear_algebra.specs.LinearMaps.{IsLinear}
@@ -14,7 +14,7 @@ use Rattle.linear_algebra.proofs.MatrixLaws.{mul_one_mat}
 use Rattle.linear_algebra.proofs.LinearMaps.{as_units, mul_rows, linear_combine}
 use Rattle.linear_algebra.proofs.NilOrFixed.{nil_or_fixed}
 use Rattle.linear_algebra.proofs.Solving.{zeros_not_one}
-use Rattle.local_modules.specs.Algebra.{Algebra, Element, power_in, product_in, IsUnitIn, IsNilpotentIn, IsMixed}
+use Rattle.local_modules.specs.Algebra.{Algebra, Element, product_in, IsNilpotentIn, IsMixed}
 use Rattle.local_modules.proofs.AlgebraLaws.{right_matrix, right_matrix-product, right_matrix-unit, right_matrix-sum, right_matrix-multiple, right_matrix-power, right_matrix-zeros, right_matrix_injective, by_left_linear, unit_first, nilpotent_no_unit}
 
 module _ {q : Gf} (A : Algebra q) where

@@ -1,31 +1,35 @@
 -- What holds modulo an ideal is what holds in the residue ring.
-use Rattle.std.proofs.Common.{ℕ, ◌≡◌, ◌≢◌, ◌⊎◌, inl, inr, sym, ap, ap₂, ◌∙◌, subst}
+use Rattle.std.proofs.Common.{ℕ, ◌≡◌, ◌≢◌, ◌⊎◌, inl, inr, sym, ap, ap₂, ◌∙◌}
 use Rattle.linear_algebra.specs.Field.{Gf, order}
 use Rattle.linear_algebra.specs.Matrix.{Mat, zeros, ◌⊙◌}
-use Rattle.linear_algebra.specs.Rank.{IsInSpan}
-use Rattle.linear_algebra.specs.RowForm.{CoReducedForm}
-use Rattle.linear_algebra.proofs.CoReduced.{coreduced_form}
 use Rattle.linear_algebra.proofs.Solving.{equal_or_not}
 use Rattle.local_modules.specs.Algebra.{Algebra, Element, power_in, IsUnitIn, IsNilpotentIn}
-use Rattle.local_modules.specs.Ideal.{IsTwoSided, PowerVanishes, IsCongruent, IsCommutativeModulo, IsFrobeniusField, IsUnitModulo, IsListedDivisionRing}
+use Rattle.local_modules.specs.Ideal.{PowerVanishes, IsCongruent, IsCommutativeModulo, IsFrobeniusField, IsUnitModulo, IsListedDivisionRing}
+use Rattle.local_modules.specs.Residue.{ResidueRing}
 use Rattle.local_modules.specs.Certificate.{LocalCertificate}
 use Rattle.local_modules.proofs.AlgebraLaws.{unit_of_right}
 use Rattle.local_modules.proofs.FrobeniusFields.{frobenius_field}
-use Rattle.local_modules.proofs.ResidueRing.{class_of, lift_of, class-lift, class_zeros, class_multiple, class_of_member, member_of_class, class_same, congruent_of_class, residue_ring, class_product, class_power, member_nilpotent, unit_of_class}
+use Rattle.local_modules.proofs.ResidueRing.{class_of, lift_of, class-lift, class_multiple, class_of_member, member_of_class, class_same, congruent_of_class, Classes, classes_of, residue, ring_product, ring_unit, class_power, member_nilpotent, unit_of_class}
 
-module _ {q : Gf} (A : Algebra q) {k : ℕ} (I : Mat q k A.size) (C : CoReducedForm I) (t : IsTwoSided A I) where
+module _ {q : Gf} (A : Algebra q) {k : ℕ} (I : Mat q k A.size) (S : ResidueRing A I) where
   -- The residue ring.
   abbrev R : Algebra q
-  R = residue_ring A I C t
+  R = S.ring
+
+  abbrev C : Classes I
+  C = classes_of S
 
   power_of_lift : (y : Element R) (e : ℕ) → class_of A I C (power_in A (lift_of A I C y) e) ≡ power_in R y e
-  power_of_lift y e = class_power A I C t (lift_of A I C y) e ∙ ap (λ z. power_in R z e) (class-lift A I C y)
+  power_of_lift y e = class_power A I S (lift_of A I C y) e ∙ ap (λ z. power_in R z e) (class-lift A I C y)
 
   pub commutes_residue : IsCommutativeModulo A I → (x y : Element R) → R.product x y ≡ R.product y x
-  commutes_residue c x y = class_same A I C _ _ (c (lift_of A I C x) (lift_of A I C y))
+  commutes_residue c x y = sym (lifts x y) ∙ class_same A I C _ _ (c (lift_of A I C x) (lift_of A I C y)) ∙ lifts y x
+    where
+      lifts : (x y : Element R) → class_of A I C (A.product (lift_of A I C x) (lift_of A I C y)) ≡ R.product x y
+      lifts x y = ring_product A I S (lift_of A I C x) (lift_of A I C y) ∙ ap₂ R.product (class-lift A I C x) (class-lift A I C y)
 
   pub commutes_modulo : ((x y : Element R) → R.product x y ≡ R.product y x) → IsCommutativeModulo A I
-  commutes_modulo c x y = congruent_of_class A I C _ _ (class_product A I C t x y ∙ c (class_of A I C x) (class_of A I C y) ∙ sym (class_product A I C t y x))
+  commutes_modulo c x y = congruent_of_class A I C _ _ (ring_product A I S x y ∙ c (class_of A I C x) (class_of A I C y) ∙ sym (ring_product A I S y x))
 
   -- Frobenius fields.
   module _ (f : IsFrobeniusField A I) where
@@ -49,11 +53,11 @@ module _ {q : Gf} (A : Algebra q) {k : ℕ} (I : Mat q k A.size) (C : CoReducedF
       → (v : Element R) → v ≢ zeros q 1 C.size → power_in R v (order q) ≡ v → ((y : Element R) → power_in R y (order q) ≡ y → (c : ℕ) × (y ≡ c ⊙ v)) → IsFrobeniusField A I
   frobenius_modulo c i v n e all = record {
     commutative = commutes_modulo c;
-    injective = λ x y s. congruent_of_class A I C x y (i _ _ (sym (class_power A I C t x (order q)) ∙ class_same A I C _ _ s ∙ class_power A I C t y (order q)));
+    injective = λ x y s. congruent_of_class A I C x y (i _ _ (sym (class_power A I S x (order q)) ∙ class_same A I C _ _ s ∙ class_power A I S y (order q)));
     fixed = lift_of A I C v;
     fixed_nonzero = λ s. n (sym (class-lift A I C v) ∙ class_of_member A I C _ s);
     is_fixed = congruent_of_class A I C _ _ (power_of_lift v (order q) ∙ e ∙ sym (class-lift A I C v));
-    all_fixed = λ y s. back y (all (class_of A I C y) (sym (class_power A I C t y (order q)) ∙ class_same A I C _ _ s));
+    all_fixed = λ y s. back y (all (class_of A I C y) (sym (class_power A I S y (order q)) ∙ class_same A I C _ _ s));
   }
     where
       back : (y : Element A) → (c : ℕ) × (class_of A I C y ≡ c ⊙ v) → (c : ℕ) × IsCongruent I y (c ⊙ lift_of A I C v)
@@ -65,7 +69,7 @@ module _ {q : Gf} (A : Algebra q) {k : ℕ} (I : Mat q k A.size) (C : CoReducedF
     where
       unit : IsUnitModulo A I (lift_of A I C y) → IsUnitIn R y
       unit m = unit_of_right R y (class_of A I C m.inverse)
-          (ap (λ z. R.product z (class_of A I C m.inverse)) (sym (class-lift A I C y)) ∙ sym (class_product A I C t (lift_of A I C y) m.inverse) ∙ class_same A I C _ _ m.right)
+          (ap (λ z. R.product z (class_of A I C m.inverse)) (sym (class-lift A I C y)) ∙ sym (ring_product A I S (lift_of A I C y) m.inverse) ∙ class_same A I C _ _ m.right ∙ ring_unit A I S)
 
       go : (y ≡ zeros q 1 C.size) ⊎ (y ≢ zeros q 1 C.size) → (y ≡ zeros q 1 C.size) ⊎ IsUnitIn R y
       go (inl e) = inl e
@@ -74,18 +78,18 @@ module _ {q : Gf} (A : Algebra q) {k : ℕ} (I : Mat q k A.size) (C : CoReducedF
   pub unit_modulo : (x : Element A) → IsUnitIn R (class_of A I C x) → IsUnitModulo A I x
   unit_modulo x i = record {
     inverse = lift_of A I C i.inverse;
-    right = congruent_of_class A I C _ _ (class_product A I C t x (lift_of A I C i.inverse) ∙ ap (R.product (class_of A I C x)) (class-lift A I C i.inverse) ∙ i.right);
-    left = congruent_of_class A I C _ _ (class_product A I C t (lift_of A I C i.inverse) x ∙ ap (λ z. R.product z (class_of A I C x)) (class-lift A I C i.inverse) ∙ i.left);
+    right = congruent_of_class A I C _ _ (ring_product A I S x (lift_of A I C i.inverse) ∙ ap (R.product (class_of A I C x)) (class-lift A I C i.inverse) ∙ i.right ∙ sym (ring_unit A I S));
+    left = congruent_of_class A I C _ _ (ring_product A I S (lift_of A I C i.inverse) x ∙ ap (λ z. R.product z (class_of A I C x)) (class-lift A I C i.inverse) ∙ i.left ∙ sym (ring_unit A I S));
   }
 
   -- Where each class is zero or invertible, and a power of the ideal is zero, each element is invertible or nilpotent.
   pub local_of_residue : (s : ℕ) → PowerVanishes A I s → ((y : Element R) → (y ≡ zeros q 1 C.size) ⊎ IsUnitIn R y) → (x : Element A) → IsUnitIn A x ⊎ IsNilpotentIn A x
   local_of_residue s v d x = elim (d (class_of A I C x)) [
-    | inl z ↦ inr (member_nilpotent A I C t s v x (member_of_class A I C x z))
-    | inr i ↦ inl (unit_of_class A I C t s v x i)
+    | inl z ↦ inr (member_nilpotent A I s v x (member_of_class A I C x z))
+    | inr i ↦ inl (unit_of_class A I S s v x i)
   ]
 
 -- An algebra with a certificate is local: each element is invertible or nilpotent.
 pub certificate_local : {q : Gf} (A : Algebra q) → LocalCertificate A → (x : Element A) → IsUnitIn A x ⊎ IsNilpotentIn A x
-certificate_local A c = local_of_residue A c.ideal (coreduced_form c.ideal) c.two_sided c.power c.least_power.vanishes
-    (λ y. elim c.residue [ inl f ↦ frobenius_residue A c.ideal (coreduced_form c.ideal) c.two_sided f y | inr d ↦ listed_residue A c.ideal (coreduced_form c.ideal) c.two_sided d y ])
+certificate_local A c = local_of_residue A c.ideal (residue A c.ideal c.two_sided) c.power c.least_power.vanishes
+    (λ y. elim c.residue [ inl f ↦ frobenius_residue A c.ideal (residue A c.ideal c.two_sided) f y | inr d ↦ listed_residue A c.ideal (residue A c.ideal c.two_sided) d y ])

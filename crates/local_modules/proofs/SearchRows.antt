@@ -2,7 +2,7 @@
 use Rattle.std.proofs.Common.{ℕ, zero, suc, ◌%◌, ◌<◌, ◌≤◌, ◌≡◌, ◌≢◌, ◌⊎◌, inl, inr, sym, ap, ◌∙◌, arith, subst, cond, eqb, eq-eqb, ne_eqb, mod-eq_of_lt, refl}
 use Rattle.std.proofs.lemmas.Bool.{cases_eq, cond-true, cond-false}
 use Rattle.linear_algebra.specs.Field.{Gf, order}
-use Rattle.linear_algebra.specs.Matrix.{Mat, Row, made}
+use Rattle.linear_algebra.specs.Matrix.{Row, made}
 use Rattle.linear_algebra.proofs.PartsLaws.{made-at, Row-eq}
 use Rattle.linear_algebra.proofs.Search.{search_or_all}
 

@@ -1,13 +1,13 @@
 -- Modules as sums of two parts, and the exchange of parts: where a second part of one splitting goes isomorphically to the second part of another,
 -- the first parts are isomorphic.
-use Rattle.std.proofs.Common.{ℕ, zero, suc, ◌≡◌, ◌≢◌, ◌<◌, ◌⊎◌, inl, inr, refl, sym, ap, ap₂, ◌∙◌, subst, arith}
+use Rattle.std.proofs.Common.{◌≡◌, sym, ap, ap₂, ◌∙◌}
 use Rattle.linear_algebra.specs.Field.{Gf}
 use Rattle.representations.specs.Quiver.{Quiver}
 use Rattle.representations.specs.Rep.{Rep}
 use Rattle.representations.specs.Hom.{Hom, ◌≫◌, ◌⊕◌, identity, zero_hom, negative_hom}
 use Rattle.representations.specs.Module.{IsIso}
 use Rattle.representations.specs.Sum.{sum_rep, into_first, into_second, onto_first, onto_second}
-use Rattle.representations.proofs.Homs.{compose_assoc, compose_identity, identity_compose, compose_zero, zero_compose, sum_comm, sum_assoc, sum_zero, zero_sum, sum_negative, negative_add_hom, compose_sum, sum_compose, compose_negative, negative_compose}
+use Rattle.representations.proofs.Homs.{compose_assoc, compose_identity, identity_compose, sum_assoc, sum_zero, zero_sum, negative_add_hom, compose_sum, sum_compose, compose_negative, negative_compose}
 use Rattle.representations.proofs.Sums.{first_first, second_second, first_second, second_first, whole_sum}
 use Rattle.local_modules.specs.Isomorphic.{Isomorphic}
 

@@ -1,11 +1,11 @@
 -- Powers of an ideal of a matrix algebra, vertex by vertex: they are zero exactly where the images of all rows at the vertices are, and if some power
 -- is zero then so is the one whose number is the largest dimension at a vertex.
-use Rattle.std.proofs.Common.{ℕ, zero, suc, ◌+◌, ◌-◌, ◌<◌, ◌≤◌, ◌≡◌, ◌≢◌, ◌⊎◌, inl, inr, sym, ap, ap₂, ◌∙◌, arith, subst}
+use Rattle.std.proofs.Common.{ℕ, zero, suc, ◌+◌, ◌-◌, ◌<◌, ◌≤◌, ◌≡◌, inl, inr, sym, ap, ◌∙◌, arith, subst}
 use Rattle.linear_algebra.specs.Field.{Gf}
-use Rattle.linear_algebra.specs.Matrix.{Mat, zeros, ◌⊞◌, ◌⊙◌, ◌·◌}
+use Rattle.linear_algebra.specs.Matrix.{Mat, zeros, ◌·◌}
 use Rattle.linear_algebra.specs.Parts.{row}
 use Rattle.linear_algebra.specs.Rank.{IsInSpan}
-use Rattle.linear_algebra.specs.Families.{combine, IsCombination, ordered_product, HasFixedRow}
+use Rattle.linear_algebra.specs.Families.{IsCombination, ordered_product, HasFixedRow}
 use Rattle.linear_algebra.specs.LinearMaps.{IsLinear}
 use Rattle.linear_algebra.proofs.MatrixLaws.{mul_assoc_mat, mul_one_mat, mul_zeros, zeros_mul}
 use Rattle.linear_algebra.proofs.LinearMaps.{linear_combine, mul_rows}
@@ -14,7 +14,7 @@ use Rattle.linear_algebra.proofs.NilOrFixed.{whole, images, nil_or_fixed}
 use Rattle.linear_algebra.proofs.FamilyPowers.{images_vanish, vanishing_images, products_vanish, ordered_product-none, ordered_product-last, ordered_product-add}
 use Rattle.representations.specs.Quiver.{Quiver}
 use Rattle.representations.specs.Rep.{Rep}
-use Rattle.representations.specs.Hom.{Hom, Hom-eq, ◌≫◌, identity, zero_hom}
+use Rattle.representations.specs.Hom.{Hom-eq}
 use Rattle.representations.proofs.Homs.{compose-at, identity-at, zero_hom-at, sum-at, multiple-at, same-at}
 use Rattle.local_modules.specs.Algebra.{Algebra, Element, product_in}
 use Rattle.local_modules.specs.Ideal.{IsTwoSided, PowerVanishes}
@@ -56,10 +56,17 @@ module _ {q : Gf} {Q : Quiver} {X : Rep q Q} (M : MatrixAlgebra X) where
       is = sym (linear_combine (λ (x : Element A). (M.element x).at v) (at_linear v) k (s.by.at 0) (λ j. row j I)) ∙ ap (λ z. (M.element z).at v) (sym (mul_rows s.by I) ∙ s.is);
     }
 
-    -- All products of s members are zero exactly where the images of all rows at each vertex are.
+    -- All products of s members are zero exactly where all products of s rows are at each vertex,
+    pub products_of_power : (s : ℕ) → PowerVanishes A I s → (v : ℕ) (w : ℕ → ℕ) → ((i : ℕ) → i < s → w i < k) → ordered_product (λ i. generators_at v (w i)) s ≡ zeros q (X.dim v) (X.dim v)
+    products_of_power s p v w b =
+        sym (product_at v (λ i. row (w i) I) s) ∙ vertices_of_zero (product_in A (λ i. row (w i) I) s) (p (λ i. row (w i) I) (λ i l. row_in_span I I (w i) (in_span_self I))) v
+
+    pub power_of_products : (s : ℕ) → ((v : ℕ) (w : ℕ → ℕ) → ((i : ℕ) → i < s → w i < k) → ordered_product (λ i. generators_at v (w i)) s ≡ zeros q (X.dim v) (X.dim v)) → PowerVanishes A I s
+    power_of_products s z h m = zero_at_vertices (product_in A h s) (λ v. product_at v h s ∙ products_vanish k (generators_at v) s (z v) (λ i. (M.element (h i)).at v) (λ i l. member_at v (h i) (m i l)))
+
+    -- and exactly where the s-th images of all rows at each vertex are.
     pub images_of_power : (s : ℕ) → PowerVanishes A I s → (v : ℕ) → (images k (generators_at v) (whole q (X.dim v)) s).basis ≡ zeros q (images k (generators_at v) (whole q (X.dim v)) s).size (X.dim v)
-    images_of_power s p v = images_vanish k (generators_at v) s (λ w b.
-        sym (product_at v (λ i. row (w i) I) s) ∙ vertices_of_zero (product_in A (λ i. row (w i) I) s) (p (λ i. row (w i) I) (λ i l. row_in_span I I (w i) (in_span_self I))) v)
+    images_of_power s p v = images_vanish k (generators_at v) s (λ w b. products_of_power s p v w b)
 
     pub power_of_images : (s : ℕ) → ((v : ℕ) → (images k (generators_at v) (whole q (X.dim v)) s).basis ≡ zeros q (images k (generators_at v) (whole q (X.dim v)) s).size (X.dim v)) → PowerVanishes A I s
     power_of_images s z h m = zero_at_vertices (product_in A h s) (λ v.

@@ -49,3 +49,10 @@ pub record IsUnitModulo {q : Gf} (A : Algebra q) {k : ℕ} (ideal : Mat q k A.si
 pub record IsListedDivisionRing {q : Gf} (A : Algebra q) {k : ℕ} (ideal : Mat q k A.size) : Type 0 where
   pub not_commutative : IsCommutativeModulo A ideal → ⊥
   pub inverses : (x : Element A) → (IsInSpan ideal x → ⊥) → IsUnitModulo A ideal x
+
+-- The two-sided ideal that an ideal and an element x generate: it is two-sided, has both, and lies in each two-sided ideal that has both.
+pub record IsGeneratedWith {q : Gf} (A : Algebra q) {k l : ℕ} (ideal : Mat q k A.size) (x : Element A) (larger : Mat q l A.size) : Type 0 where
+  pub two_sided : IsTwoSided A larger
+  pub has_ideal : IsInSpan larger ideal
+  pub has_element : IsInSpan larger x
+  pub least : {s : ℕ} (other : Mat q s A.size) → IsTwoSided A other → IsInSpan other ideal → IsInSpan other x → IsInSpan other larger

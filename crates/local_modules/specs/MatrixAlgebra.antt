@@ -1,14 +1,14 @@
 -- Matrix algebras: spaces of endomorphisms of a representation that contain the identity and are closed under composition. Over a quiver without
 -- arrows an endomorphism is any family of square matrices, one at each vertex.
 -- (Assem, Simson, Skowroński, volume 1, chapter I, 1 and 4.)
-use Rattle.std.specs.Prelude.{ℕ, ◌≡◌, ◌<◌, ◌≤◌, refl}
+use Rattle.std.specs.Prelude.{ℕ, ◌≡◌, ◌<◌}
 use Rattle.std.proofs.Common.{sym, ap, ap₂, ◌∙◌, arith}
 use Rattle.linear_algebra.specs.Field.{Gf}
 use Rattle.linear_algebra.specs.Matrix.{Mat, Row, zeros, ◌⊞◌, ◌⊙◌}
 use Rattle.linear_algebra.proofs.Blocks.{no_rows_zeros}
 use Rattle.representations.specs.Quiver.{Quiver}
 use Rattle.representations.specs.Rep.{Rep}
-use Rattle.representations.specs.Hom.{Hom, ◌≫◌, identity, ◌⊕◌, multiple}
+use Rattle.representations.specs.Hom.{Hom, ◌≫◌, identity, ◌⊕◌, multiple, sum_of}
 use Rattle.representations.specs.HomSpace.{HomBasis}
 use Rattle.representations.proofs.Homs.{compose_assoc, compose_identity, identity_compose, sum_compose, compose_sum, multiple_compose, compose_multiple}
 use Rattle.representations.proofs.HomSpace.{coordinates, hom-coordinates, coordinates-hom, hom_sum, hom_scale}
@@ -25,6 +25,16 @@ pub record MatrixAlgebra {q : Gf} {Q : Quiver} (X : Rep q Q) : Type 0 where
   pub one_is : element one ≡ identity X
   pub composite : Row q size → Row q size → Row q size
   pub composite_is : (c d : Row q size) → element (composite c d) ≡ element c ≫ element d
+
+-- f is the combination of h 0, .., h (m − 1) with these coefficients.
+pub record IsCombinationOf {q : Gf} {Q : Quiver} {X : Rep q Q} (m : ℕ) (h : ℕ → Hom X X) (f : Hom X X) : Type 0 where
+  pub coefficients : ℕ → ℕ
+  pub is : sum_of m (λ i. multiple (coefficients i) (h i)) ≡ f
+
+-- The span of h 0, .., h (m − 1) contains the identity and is closed under composition.
+pub record IsClosedSpan {q : Gf} {Q : Quiver} {X : Rep q Q} (m : ℕ) (h : ℕ → Hom X X) : Type 0 where
+  pub has_one : IsCombinationOf m h (identity X)
+  pub has_composites : (i j : ℕ) → i < m → j < m → IsCombinationOf m h (h i ≫ h j)
 
 -- Such an algebra in coordinates; the product is first x, then y.
 module _ {q : Gf} {Q : Quiver} {X : Rep q Q} (M : MatrixAlgebra X) where

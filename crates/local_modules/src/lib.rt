@@ -2,4 +2,6 @@
 //! There is no code here but law functions: the body is empty, and the contract is the law.
 #![tactic(auto)]
 
+pub mod algebras;
+pub mod certificates;
 pub mod locality;

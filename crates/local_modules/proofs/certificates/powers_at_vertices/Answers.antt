@@ -1,0 +1,11 @@
+use Rattle.local_modules.proofs.VertexPowers.{products_of_power, power_of_products, power_bound}
+use Rattle.local_modules.proofs.certificates.powers_at_vertices.Goals as goal
+
+pub returns-clause-at_vertices : goal.returns-clause-at_vertices
+returns-clause-at_vertices c = λ q Q X M k I. products_of_power M I
+
+pub returns-clause-from_vertices : goal.returns-clause-from_vertices
+returns-clause-from_vertices c = λ q Q X M k I. power_of_products M I
+
+pub returns-clause-bound : goal.returns-clause-bound
+returns-clause-bound c = λ q Q X M k I t s p. power_bound M I t s p
