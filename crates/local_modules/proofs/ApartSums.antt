@@ -1,14 +1,14 @@
 -- Sums of local modules that are pairwise apart: an endomorphism all of whose diagonal components are isomorphisms is one.
-use Rattle.std.proofs.Common.{ℕ, zero, suc, ◌≡◌, ◌≢◌, ◌<◌, ◌⊎◌, inl, inr, refl, sym, ap, ap₂, ◌∙◌, subst, arith}
+use Rattle.std.proofs.Common.{ℕ, zero, suc, ◌≡◌, ◌<◌, sym, ap, ap₂, ◌∙◌, subst, arith}
 use Rattle.std.proofs.lemmas.Bool.{cases_eq}
 use Rattle.linear_algebra.specs.Field.{Gf}
 use Rattle.linear_algebra.proofs.Blocks.{no_rows}
 use Rattle.representations.specs.Quiver.{Quiver}
 use Rattle.representations.specs.Rep.{Rep}
-use Rattle.representations.specs.Hom.{Hom, Hom-eq, ◌≫◌, ◌⊕◌, identity, zero_hom, negative_hom, sum_of}
-use Rattle.representations.specs.Module.{IsIso, IsNilpotent}
+use Rattle.representations.specs.Hom.{Hom, Hom-eq, ◌≫◌, ◌⊕◌, identity, zero_hom, negative_hom}
+use Rattle.representations.specs.Module.{IsIso}
 use Rattle.representations.specs.Sum.{sum_family, zero_rep}
-use Rattle.representations.proofs.Homs.{compose_assoc, compose_identity, compose_zero, compose_sum, sum_compose, compose_negative, negative_compose, sum_of-same}
+use Rattle.representations.proofs.Homs.{compose_assoc, compose_identity, compose_zero, compose_sum, sum_compose, compose_negative, negative_compose}
 use Rattle.representations.proofs.Biproducts.{sum_of-single}
 use Rattle.representations.proofs.SumFamilies.{from_family, into_family, family_through}
 use Rattle.projectives.specs.Families.{choose, family_in}
@@ -17,7 +17,6 @@ use Rattle.projectives.proofs.Families.{choose-same, choose-other, in-from_famil
 use Rattle.local_modules.specs.Local.{IsLocal}
 use Rattle.local_modules.specs.RadicalOfSum.{ArePairwiseApart}
 use Rattle.local_modules.proofs.LocalRings.{iso_identity, iso_minus_nilpotent}
-use Rattle.local_modules.proofs.TwoParts.{TwoParts}
 use Rattle.local_modules.proofs.Elimination.{rest_of, iso_by_elimination}
 use Rattle.local_modules.proofs.KrullSchmidt.{skip, skip_other, skip_limit, skip_once, without}
 

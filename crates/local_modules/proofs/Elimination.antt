@@ -1,14 +1,11 @@
 -- An endomorphism of a sum of local modules, pairwise apart, whose components from each member to itself are isomorphisms is an isomorphism.
-use Rattle.std.proofs.Common.{ℕ, zero, suc, ◌≡◌, ◌≢◌, ◌<◌, ◌⊎◌, inl, inr, refl, sym, ap, ap₂, ◌∙◌, subst, arith}
+use Rattle.std.proofs.Common.{◌≡◌, refl, sym, ap, ap₂, ◌∙◌, subst}
 use Rattle.linear_algebra.specs.Field.{Gf}
-use Rattle.linear_algebra.proofs.Blocks.{no_rows}
 use Rattle.representations.specs.Quiver.{Quiver}
 use Rattle.representations.specs.Rep.{Rep}
-use Rattle.representations.specs.Hom.{Hom, Hom-eq, ◌≫◌, ◌⊕◌, identity, zero_hom, negative_hom, power}
+use Rattle.representations.specs.Hom.{Hom, ◌≫◌, ◌⊕◌, identity, zero_hom, negative_hom}
 use Rattle.representations.specs.Module.{IsIso, IsNilpotent}
-use Rattle.representations.specs.Sum.{sum_family, zero_rep}
-use Rattle.representations.proofs.Homs.{compose_assoc, compose_identity, identity_compose, compose_zero, zero_compose, sum_comm, sum_assoc, sum_zero, zero_sum, sum_negative, negative_add_hom, compose_sum, sum_compose, compose_negative, negative_compose, power-suc, power-zero}
-use Rattle.representations.proofs.Endomorphisms.{one_minus_nilpotent_hom}
+use Rattle.representations.proofs.Homs.{compose_assoc, compose_identity, identity_compose, compose_zero, zero_compose, sum_assoc, sum_zero, zero_sum, sum_negative, compose_sum, sum_compose, compose_negative, negative_compose, power-suc, power-zero}
 use Rattle.local_modules.proofs.LocalRings.{iso_first, iso_second}
 use Rattle.local_modules.proofs.TwoParts.{TwoParts}
 

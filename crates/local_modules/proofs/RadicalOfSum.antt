@@ -1,15 +1,14 @@
 -- The radical of the endomorphism ring of a sum of local modules that are pairwise apart is an ideal, and a power of it is zero.
-use Rattle.std.proofs.Common.{ℕ, zero, suc, ◌+◌, ◌-◌, ◌<◌, ◌≤◌, ◌≡◌, ◌≢◌, ◌⊎◌, inl, inr, refl, sym, ap, ap₂, ◌∙◌, arith, subst}
+use Rattle.std.proofs.Common.{ℕ, zero, suc, ◌+◌, ◌-◌, ◌<◌, ◌≡◌, ◌⊎◌, inl, inr, sym, ap, ap₂, ◌∙◌, arith, subst}
 use mathlib.Core.Path.{fun_ext}
 use Rattle.std.proofs.lemmas.Bool.{cases_lt, cases_eq}
 use Rattle.linear_algebra.specs.Field.{Gf}
-use Rattle.linear_algebra.specs.Matrix.{Mat, Row, zeros, one, ◌⊞◌, ◌⊙◌, ◌·◌, negative}
+use Rattle.linear_algebra.specs.Matrix.{Mat, Row, zeros, one, ◌⊞◌, ◌·◌, negative}
 use Rattle.linear_algebra.specs.Parts.{row}
-use Rattle.linear_algebra.specs.Rank.{IsInSpan}
 use Rattle.linear_algebra.specs.BlockFamilies.{total}
 use Rattle.linear_algebra.specs.Families.{combine, IsCombination, ordered_product, HasFixedRow}
 use Rattle.linear_algebra.specs.LinearMaps.{IsLinear}
-use Rattle.linear_algebra.proofs.MatrixLaws.{mul_assoc_mat, mul_zeros, zeros_mul, mul_one_mat, mul_add_mat, mul_negative, add_negative}
+use Rattle.linear_algebra.proofs.MatrixLaws.{mul_assoc_mat, zeros_mul, mul_one_mat, mul_add_mat, mul_negative, add_negative}
 use Rattle.linear_algebra.proofs.Blocks.{no_rows}
 use Rattle.linear_algebra.proofs.BlockFamilies.{total_grows}
 use Rattle.linear_algebra.proofs.Families.{combine_in_span}

@@ -1,5 +1,5 @@
 -- Modules that are pairwise apart, and the radical of the endomorphism ring of their sum. (Assem, Simson, Skowroński, volume 1, appendix, 3 and 4.)
-use Rattle.std.specs.Prelude.{ℕ, zero, suc, ◌<◌, ◌≡◌, ◌≢◌}
+use Rattle.std.specs.Prelude.{ℕ, zero, suc, ◌<◌, ◌≢◌}
 use Rattle.linear_algebra.specs.Field.{Gf}
 use Rattle.representations.specs.Quiver.{Quiver}
 use Rattle.representations.specs.Rep.{Rep}
