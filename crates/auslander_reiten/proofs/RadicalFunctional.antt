@@ -1,17 +1,12 @@
 -- The endomorphisms of a local module that are no isomorphisms have a finite basis, and there is a functional that is zero on them and 1 on the
 -- identity; it comes from one on Hom (P, M), where P covers M.
-use Rattle.std.proofs.Common.{ℕ, zero, suc, ◌+◌, ◌≤◌, ◌≡◌, ◌⊎◌, inl, inr, sym, ap, ap₂, ◌∙◌, arith, subst}
+use Rattle.std.proofs.Common.{◌≡◌, ◌⊎◌, inl, inr, sym, ap, ◌∙◌, subst}
 use Rattle.linear_algebra.specs.Field.{Gf}
-use Rattle.linear_algebra.specs.Matrix.{Mat, Row, zeros, one, ◌⊞◌, ◌·◌, stack}
-use Rattle.linear_algebra.specs.Rank.{IsInSpan, IsInColumnSpan, HasRightInverse, IsSeparate}
+use Rattle.linear_algebra.specs.Matrix.{Mat, Row, zeros, one, ◌·◌}
+use Rattle.linear_algebra.specs.Rank.{IsInColumnSpan, IsSeparate}
 use Rattle.linear_algebra.specs.LinearMaps.{IsLinear, matrix_of}
-use Rattle.linear_algebra.proofs.MatrixLaws.{mul_assoc_mat, add_mul_mat, mul_add_mat, scale_mul, zero_scale, mul_zeros, zeros_mul}
-use Rattle.linear_algebra.proofs.Blocks.{no_rows}
-use Rattle.linear_algebra.proofs.Products.{products, blocks}
-use Rattle.linear_algebra.proofs.PartsLaws.{scalar_mul}
+use Rattle.linear_algebra.proofs.MatrixLaws.{mul_assoc_mat, add_mul_mat, scale_mul, zero_scale, mul_zeros, zeros_mul}
 use Rattle.linear_algebra.proofs.LinearMaps.{mul-matrix_of}
-use Rattle.linear_algebra.proofs.Steinitz.{steinitz}
-use Rattle.linear_algebra.proofs.Subspaces.{extended}
 use Rattle.linear_algebra.proofs.Solving.{solve_or, factors_through, zeros_not_one}
 use Rattle.representations.specs.Quiver.{Quiver, BoundQuiver}
 use Rattle.representations.specs.Rep.{Rep}
