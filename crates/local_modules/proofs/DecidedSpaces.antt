@@ -1,26 +1,16 @@
 -- A space of rows, of each of which it is decided whether it is a member, is the span of independent rows.
-use Rattle.std.proofs.Common.{ℕ, zero, suc, ◌+◌, ◌≤◌, ◌≡◌, ◌⊎◌, inl, inr, sym, ap, ap₂, ◌∙◌, arith, subst}
+use Rattle.std.proofs.Common.{ℕ, zero, suc, ◌+◌, ◌≤◌, ◌⊎◌, inl, inr, sym, arith, subst}
 use Rattle.linear_algebra.specs.Field.{Gf}
 use Rattle.linear_algebra.specs.Matrix.{Mat, Row, zeros, one, ◌⊞◌, ◌⊙◌, ◌·◌, stack}
 use Rattle.linear_algebra.specs.Rank.{IsInSpan, HasRightInverse, IsSeparate}
-use Rattle.linear_algebra.proofs.MatrixLaws.{mul_assoc_mat, mul_add_mat, mul_zeros}
+use Rattle.linear_algebra.proofs.MatrixLaws.{mul_zeros}
 use Rattle.linear_algebra.proofs.Blocks.{no_rows}
-use Rattle.linear_algebra.proofs.Products.{products, blocks}
 use Rattle.linear_algebra.proofs.PartsLaws.{scalar_mul}
 use Rattle.linear_algebra.proofs.Steinitz.{steinitz}
 use Rattle.linear_algebra.proofs.Subspaces.{extended}
 use Rattle.linear_algebra.proofs.Solving.{solve_or}
+use Rattle.projectives.proofs.BasisModulo.{combination_of_stack}
 use Rattle.local_modules.proofs.SearchRows.{search_rows}
-
--- A combination of rows one over the other.
-combination_of_stack : {q : Gf} {m k n l : ℕ} (c : Mat q l (m + k)) (a : Mat q m n) (b : Mat q k n) → c · stack (one q m) (zeros q k m) · a ⊞ c · stack (zeros q m k) (one q k) · b ≡ c · stack a b
-combination_of_stack {q} {m} {k} c a b =
-    ap₂ (λ x y. x ⊞ y) (mul_assoc_mat c (stack (one q m) (zeros q k m)) a) (mul_assoc_mat c (stack (zeros q m k) (one q k)) b)
-    ∙ sym (mul_add_mat c (stack (one q m) (zeros q k m) · a) (stack (zeros q m k) (one q k) · b))
-    ∙ ap (λ z. c · z) (whole a b)
-  where
-    whole : {n : ℕ} (a : Mat q m n) (b : Mat q k n) → stack (one q m) (zeros q k m) · a ⊞ stack (zeros q m k) (one q k) · b ≡ stack a b
-    whole a b = simp (blocks, products)
 
 -- Rows whose combinations are the members of a space.
 pub record Spanning {q : Gf} {n : ℕ} (Member : Row q n → Type 0) : Type 0 where
@@ -30,8 +20,7 @@ pub record Spanning {q : Gf} {n : ℕ} (Member : Row q n → Type 0) : Type 0 wh
   pub spans : (x : Row q n) → Member x → IsInSpan rows x
 
 module _ {q : Gf} {n : ℕ} (Member : Row q n → Type 0) (zero_member : Member (zeros q 1 n)) (sum_member : (x y : Row q n) → Member x → Member y → Member (x ⊞ y))
-  (multiple_member : (c : ℕ) (x : Row q n) → Member x → Member (c ⊙ x)) (decide : (x : Row q n) → Member x ⊎ (Member x → ⊥)) where
-
+    (multiple_member : (c : ℕ) (x : Row q n) → Member x → Member (c ⊙ x)) (decide : (x : Row q n) → Member x ⊎ (Member x → ⊥)) where
   -- one row more
   inside_more : {m : ℕ} (rows : Mat q m n) → ((x : Row q m) → Member (x · rows)) → (y : Row q n) → Member y → (x : Row q (1 + m)) → Member (x · stack y rows)
   inside_more {m} rows inside y y_member x = subst Member (combination_of_stack x y rows) (
