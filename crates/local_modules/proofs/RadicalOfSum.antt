@@ -67,6 +67,10 @@ module _ {q : Gf} {Q : Quiver} (n : ℕ) (Y : ℕ → Rep q Q) where
           ap (λ z. z ≫ y ≫ family_out n Y l) (sym (compose_assoc (family_in n Y k ≫ x) (family_out n Y j) (family_in n Y j)))
           ∙ ap (λ z. z ≫ family_out n Y l) (compose_assoc (part n Y x k j) (family_in n Y j) y) ∙ compose_assoc (part n Y x k j) (family_in n Y j ≫ y) (family_out n Y l)
 
+  -- so many members of the radical make a product that is zero
+  unfoldable pub radical_exponent : ℕ
+  radical_exponent = total Q.vertices S.dim
+
   module _ (L : (k : ℕ) → k < n → IsLocal (Y k)) (apart : ArePairwiseApart n Y) where
     -- ---- the radical is an ideal
 
@@ -200,10 +204,6 @@ module _ {q : Gf} {Q : Quiver} (n : ℕ) (Y : ℕ → Rep q Q) where
           let e : S.dim v + suc k ≡ suc (S.dim v + k) = omega arith in
           ap (λ m. (composite_of h m).at v) e ∙ compose-at (composite_of h (S.dim v + k)) (h (S.dim v + k)) v
           ∙ ap (λ z. z · (h (S.dim v + k)).at v) (vanish_more k h (λ i l. r i (omega (arith, l)))) ∙ zeros_mul ((h (S.dim v + k)).at v)
-
-    -- the number of factors
-    unfoldable pub radical_exponent : ℕ
-    radical_exponent = total Q.vertices S.dim
 
     -- Each product of so many members is zero.
     pub radical_power : (h : ℕ → Hom S S) → ((i : ℕ) → i < radical_exponent → IsRadical n Y (h i)) → composite_of h radical_exponent ≡ zero_hom S S
