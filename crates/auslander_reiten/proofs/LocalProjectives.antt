@@ -1,38 +1,47 @@
 -- The projective module at a vertex is local, and so is the injective one: an endomorphism is a multiple of the identity up to the radical.
-use Rattle.std.proofs.Common.{ℕ, zero, suc, ◌+◌, ◌<◌, ◌≤◌, ◌≡◌, ◌≢◌, ◌⊎◌, inl, inr, refl, sym, ap, ap₂, ◌∙◌, arith, subst}
+use Rattle.std.proofs.Common.{ℕ, zero, suc, ◌+◌, ◌<◌, ◌≤◌, ◌≡◌, ◌≢◌, ◌⊎◌, inl, inr, refl, sym, ap, ◌∙◌, arith, subst}
+use Rattle.std.proofs.Math.Path.{path_j}
 use Rattle.std.proofs.lemmas.Bool.{cases_lt}
 use Rattle.linear_algebra.specs.Field.{Gf, order, add, mul, neg, inv}
-use Rattle.linear_algebra.specs.FieldLaws.{mul_one, mul_inv, mul_comm, add_neg}
-use Rattle.linear_algebra.specs.Matrix.{Mat, Row, zeros, one, delta-same, ◌⊞◌, ◌⊙◌, negative, ◌·◌}
-use Rattle.linear_algebra.specs.Parts.{unit}
-use Rattle.linear_algebra.proofs.MatrixLaws.{mul_assoc_mat, mul_add_mat, mul_negative, mul_scale, scale_mul, scale_add, scale_scale, one_scale, mul_one_mat, mul_zeros, zeros_mul, add_mul_mat, add_assoc_mat, add_zeros, zeros_add, negative_add, add_comm_mat, add_negative, one-at}
-use Rattle.linear_algebra.proofs.PartsLaws.{unit-at}
+use Rattle.linear_algebra.specs.FieldLaws.{mul_one, mul_zero, mul_inv, mul_comm, add_neg}
+use Rattle.linear_algebra.specs.Sums.{sum-zeros}
+use Rattle.linear_algebra.specs.Matrix.{Row, one, delta-same, ◌⊞◌, ◌⊙◌, negative, ◌·◌}
+use Rattle.linear_algebra.specs.Parts.{unit, row}
+use Rattle.linear_algebra.proofs.MatrixLaws.{mul_assoc_mat, mul_add_mat, mul_negative, mul_scale, scale_mul, scale_add, scale_scale, one_scale, mul_one_mat, mul_zeros, zeros_mul, add_mul_mat, add_assoc_mat, add_zeros, negative_add, add_comm_mat, add_negative, one-at}
+use Rattle.linear_algebra.proofs.PartsLaws.{unit-at, unit_mul, row-at}
 use Rattle.linear_algebra.proofs.LinearMaps.{as_units}
 use Rattle.linear_algebra.proofs.Families.{combine_mul}
-use Rattle.linear_algebra.proofs.Search.{zero_or_not}
+use Rattle.linear_algebra.proofs.Search.{zero_or_not, search_or_all}
 use Rattle.linear_algebra.proofs.Inverses.{left_inverse_square}
 use Rattle.linear_algebra.proofs.Solving.{surjective_left_inverse}
 use Rattle.representations.specs.Quiver.{Quiver, Path, path_length, path_join, BoundQuiver, opposite_algebra}
-use Rattle.representations.specs.Rep.{Rep, along}
+use Rattle.representations.specs.Rep.{Rep, along, IsMod}
 use Rattle.representations.specs.Hom.{Hom, ◌≫◌, ◌⊕◌, identity, negative_hom, multiple, power, zero_hom}
-use Rattle.representations.specs.Module.{IsEpi, IsIso, IsNilpotent}
+use Rattle.representations.specs.Module.{IsEpi, IsIso, IsNilpotent, IsSplitEpi, IsZero}
+use Rattle.representations.specs.Submodule.{inclusion}
+use Rattle.representations.specs.RadicalModule.{radical}
 use Rattle.representations.specs.Dual.{dual, dual_hom}
 use Rattle.representations.specs.Radical.{IsInRadical, IsReachedModuloRadical}
-use Rattle.representations.proofs.Homs.{sum-at, negative-at, multiple-at, identity-at, power-zero, power-suc, zero_multiple, negative_add_hom, sum_zero}
+use Rattle.representations.proofs.Homs.{compose_assoc, compose-at, same-at, sum-at, negative-at, multiple-at, identity-at, power-zero, power-suc, zero_multiple, negative_add_hom, sum_zero}
 use Rattle.representations.proofs.Endomorphisms.{iso_by_vertices}
 use Rattle.representations.proofs.Paths.{along_join}
 use Rattle.representations.proofs.Duals.{dual_compose, dual_identity, dual_zero}
-use Rattle.representations.proofs.Radical.{path_length-join, radical-zeros, radical-sum, radical-scale, by_terms, into_radical_nilpotent, nakayama}
+use Rattle.representations.proofs.Radical.{path_length-join, radical-zeros, radical-sum, radical-scale, by_terms, into_radical_nilpotent, nakayama, nakayama_zero}
+use Rattle.representations.proofs.RadicalModule.{radical_in_basis, basis_in_radical}
+use Rattle.representations.proofs.Submodules.{inclusion_mono}
+use Rattle.representations.proofs.Factoring.{through_mono}
 use Rattle.projectives.specs.Words.{Words, IsWordBasis, word_at, along_word, projective}
 use Rattle.projectives.specs.Projective.{generator}
+use Rattle.projectives.specs.Yoneda.{yoneda}
 use Rattle.projectives.specs.TwoSided.{TwoSided, other}
 use Rattle.projectives.specs.Injective.{injective, undual}
-use Rattle.projectives.proofs.Yoneda.{along_word-hom}
+use Rattle.projectives.proofs.Yoneda.{along_word-hom, generator-yoneda}
 use Rattle.projectives.proofs.RadicalWords.{radical_of_long}
 use Rattle.projectives.proofs.ProjectiveRadical.{one_in_radical, radical_combine}
 use Rattle.projectives.proofs.Covers.{radical_negative}
 use Rattle.projectives.proofs.Turning.{dual-undual}
 use Rattle.local_modules.specs.Local.{IsLocal}
+use Rattle.auslander_reiten.specs.AlmostSplit.{Lifts}
 use Rattle.auslander_reiten.proofs.Chains.{power-shift}
 
 -- A surjective endomorphism is an isomorphism.
@@ -135,9 +144,16 @@ module _ {q : Gf} (A : BoundQuiver) (W : Words q A.quiver) (B : IsWordBasis A W)
       add_cancelled : (a b : Row q (P.dim w)) → (a ⊞ b) ⊞ negative a ≡ b
       add_cancelled a b = ap (λ m. m ⊞ negative a) (add_comm_mat a b) ∙ add_assoc_mat b a (negative a) ∙ ap (λ m. b ⊞ m) (add_negative a) ∙ add_zeros b
 
+  iso_of_scalar : scalar_part ≢ 0 → IsIso x
+  iso_of_scalar d = epi_iso x (nakayama A (B.modules v) x (reached d))
+
+  pub iso_of_entry : (generator A W B v · x.at v).at 0 (B.place v) ≢ 0 → IsIso x
+  unfolding scalar_part
+  iso_of_entry d = iso_of_scalar d
+
   pub decided : IsIso x ⊎ IsNilpotent x
   decided = elim (zero_or_not scalar_part) [
-    | inl d ↦ inl (epi_iso x (nakayama A (B.modules v) x (reached d)))
+    | inl d ↦ inl (iso_of_scalar d)
     | inr e ↦ inr (nilpotent_rest e)
   ]
 
@@ -147,6 +163,44 @@ projective_local A W B v h = record {
   nonzero = λ e. let below = B.place_below v h in absurd (omega (arith, e, below));
   decides = λ x. decided A W B v h x;
 }
+
+-- Each homomorphism to the projective module goes into its radical, or is a split epimorphism.
+module _ {q : Gf} (A : BoundQuiver) (W : Words q A.quiver) (B : IsWordBasis A W) (v : ℕ) (inside : v < A.quiver.vertices) {X : Rep q A.quiver} (M : IsMod A X) (h : Hom X (projective W v)) where
+  splits_by_entry : (i : ℕ) → (h.at v).at i (B.place v) ≢ 0 → IsSplitEpi h
+  splits_by_entry i d =
+      let y = yoneda A W B X M v (unit q (X.dim v) i) in
+      let value : generator A W B v · (y ≫ h).at v ≡ row i (h.at v) =
+      ap (λ z. generator A W B v · z) (compose-at y h v) ∙ sym (mul_assoc_mat (generator A W B v) (y.at v) (h.at v))
+      ∙ ap (λ z. z · h.at v) (generator-yoneda A W B X M v (unit q (X.dim v) i)) ∙ unit_mul i (h.at v) in
+      let iso = iso_of_entry A W B v inside (y ≫ h) (λ e. d (sym (row-at i (h.at v) (B.place v)) ∙ ap (λ (z : Row q (W.count v v)). z.at 0 (B.place v)) (sym value) ∙ e)) in
+      record { section = iso.inverse ≫ y; is = compose_assoc iso.inverse y h ∙ iso.left }
+
+  entry_zero : ((i : ℕ) → i < X.dim v → (h.at v).at i (B.place v) ≡ 0) → (x : Row q (X.dim v)) → (x · h.at v).at 0 (B.place v) ≡ 0
+  unfolding ◌·◌
+  entry_zero all x = sum-zeros q (X.dim v) _ (λ i l. ap (mul q (x.at 0 i)) (all i l) ∙ mul_zero q (x.at 0 i))
+
+  into_radical : ((i : ℕ) → i < X.dim v → (h.at v).at i (B.place v) ≡ 0) → (w : ℕ) (x : Row q (X.dim w)) → IsInRadical (projective W v) w (x · h.at w)
+  into_radical all w x = one_in_radical A W B v w (x · h.at w) (λ e. path_j (λ w e. (x : Row q (X.dim w)) → (x · h.at w).at 0 (B.place v) ≡ 0) (entry_zero all) e x)
+
+  pub into_radical_or_splits : ((w : ℕ) (x : Row q (X.dim w)) → IsInRadical (projective W v) w (x · h.at w)) ⊎ IsSplitEpi h
+  into_radical_or_splits = elim (search_or_all (X.dim v) (λ i. (h.at v).at i (B.place v) ≢ 0) (λ i. (h.at v).at i (B.place v) ≡ 0) (λ i. zero_or_not ((h.at v).at i (B.place v)))) [
+    | inl f ↦ inr (splits_by_entry f.0 f.2)
+    | inr all ↦ inl (into_radical all)
+  ]
+
+  -- So it lifts along the inclusion of the radical, or is a split epimorphism.
+  pub lifts_to_radical_or_splits : Lifts (inclusion (radical (projective W v))) h ⊎ IsSplitEpi h
+  lifts_to_radical_or_splits = elim into_radical_or_splits [
+    | inl r ↦ inl (let k = through_mono (inclusion (radical (projective W v))) h (inclusion_mono (radical (projective W v))) (λ w x. radical_in_basis (r w x)) in record { lift = k.factor; is = k.is })
+    | inr s ↦ inr s
+  ]
+
+-- The inclusion of the radical of a module that is not zero is no split epimorphism.
+pub radical_inclusion_not_split : {q : Gf} (A : BoundQuiver) {X : Rep q A.quiver} → IsMod A X → (IsZero X → ⊥) → IsSplitEpi (inclusion (radical X)) → ⊥
+radical_inclusion_not_split A {X} M n s = n (nakayama_zero A M (λ w x. basis_in_radical x (record {
+  by = x · s.section.at w;
+  is = mul_assoc_mat x (s.section.at w) ((radical X).basis w) ∙ ap (λ z. x · z) (sym (compose-at s.section (inclusion (radical X)) w) ∙ same-at s.is w ∙ identity-at X w) ∙ mul_one_mat x;
+})))
 
 -- The dual of a local module is local.
 module _ {q : Gf} {Q : Quiver} {X : Rep q Q} where

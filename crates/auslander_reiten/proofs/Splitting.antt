@@ -1,5 +1,5 @@
 -- Whether a homomorphism splits is decided, by a linear equation for the section or the retraction.
-use Rattle.std.proofs.Common.{◌≡◌, ◌⊎◌, inl, inr, sym, ap, ◌∙◌}
+use Rattle.std.proofs.Common.{◌⊎◌, inl, inr, sym, ap, ◌∙◌}
 use Rattle.linear_algebra.specs.Field.{Gf}
 use Rattle.linear_algebra.specs.Matrix.{Row}
 use Rattle.linear_algebra.specs.Rank.{IsInSpan}

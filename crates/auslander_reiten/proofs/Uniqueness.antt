@@ -7,15 +7,14 @@ use Rattle.linear_algebra.proofs.Inverses.{right_inverse_square}
 use Rattle.linear_algebra.proofs.Solving.{injective_right_inverse}
 use Rattle.representations.specs.Quiver.{Quiver, BoundQuiver}
 use Rattle.representations.specs.Rep.{Rep, IsMod}
-use Rattle.representations.specs.Hom.{Hom, ◌≫◌, identity, zero_hom}
-use Rattle.representations.specs.Module.{IsMono, IsIso, IsNilpotent, IsSplitEpi}
+use Rattle.representations.specs.Hom.{Hom, ◌≫◌, identity}
+use Rattle.representations.specs.Module.{IsMono, IsIso, IsNilpotent}
 use Rattle.representations.specs.Factoring.{FactorsBefore}
 use Rattle.representations.proofs.Homs.{compose_assoc, compose_identity, identity_compose, compose-at, same-at}
 use Rattle.representations.proofs.Endomorphisms.{iso_by_vertices, iso_mono}
 use Rattle.representations.proofs.Factoring.{mono_cancels}
 use Rattle.representations.proofs.Kernels.{IsExact-zero, through_kernel}
 use Rattle.projectives.proofs.CoverUnique.{iso_of_composites}
-use Rattle.local_modules.specs.Local.{IsLocal}
 use Rattle.auslander_reiten.specs.AlmostSplit.{Lifts, IsShortExact, IsAlmostSplit, SequenceIsomorphism}
 use Rattle.auslander_reiten.proofs.LeftProperty.{not_nilpotent}
 
@@ -42,8 +41,8 @@ module _ {q : Gf} (A : BoundQuiver) {L E M : Rep q A.quiver} (f : Hom L E) (g : 
       let y = S.short_exact.exact.exact w x (ap (λ z. x · z) (sym (same-at over w) ∙ compose-at p g w) ∙ sym (mul_assoc_mat x (p.at w) (g.at w)) ∙ ap (λ z. z · g.at w) e ∙ zeros_mul (g.at w)) in
       let n = restricted.factor in
       let step : y.by · n.at w · f.at w ≡ zeros q 1 (E.dim w) =
-            mul_assoc_mat y.by (n.at w) (f.at w) ∙ ap (λ z. y.by · z) (sym (compose-at n f w) ∙ same-at restricted.is w ∙ compose-at f p w)
-            ∙ sym (mul_assoc_mat y.by (f.at w) (p.at w)) ∙ ap (λ z. z · p.at w) y.is ∙ e in
+      mul_assoc_mat y.by (n.at w) (f.at w) ∙ ap (λ z. y.by · z) (sym (compose-at n f w) ∙ same-at restricted.is w ∙ compose-at f p w)
+      ∙ sym (mul_assoc_mat y.by (f.at w) (p.at w)) ∙ ap (λ z. z · p.at w) y.is ∙ e in
       let none = iso_mono n (restricted_iso (S.left_local.decides n)) w y.by (S.short_exact.mono w (y.by · n.at w) step) in
       sym y.is ∙ ap (λ z. z · f.at w) none ∙ zeros_mul (f.at w)
 
