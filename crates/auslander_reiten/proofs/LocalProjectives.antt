@@ -166,14 +166,21 @@ projective_local A W B v h = record {
 
 -- Each homomorphism to the projective module goes into its radical, or is a split epimorphism.
 module _ {q : Gf} (A : BoundQuiver) (W : Words q A.quiver) (B : IsWordBasis A W) (v : ℕ) (inside : v < A.quiver.vertices) {X : Rep q A.quiver} (M : IsMod A X) (h : Hom X (projective W v)) where
+  abbrev to_unit : ℕ → Hom (projective W v) X
+  to_unit i = yoneda A W B X M v (unit q (X.dim v) i)
+
+  value_of_unit : (i : ℕ) → generator A W B v · (to_unit i ≫ h).at v ≡ row i (h.at v)
+  value_of_unit i =
+      ap (λ z. generator A W B v · z) (compose-at (to_unit i) h v) ∙ sym (mul_assoc_mat (generator A W B v) ((to_unit i).at v) (h.at v))
+      ∙ ap (λ z. z · h.at v) (generator-yoneda A W B X M v (unit q (X.dim v) i)) ∙ unit_mul i (h.at v)
+
+  entry_of_unit : (i : ℕ) → (generator A W B v · (to_unit i ≫ h).at v).at 0 (B.place v) ≡ (h.at v).at i (B.place v)
+  entry_of_unit i = ap (λ (z : Row q (W.count v v)). z.at 0 (B.place v)) (value_of_unit i) ∙ row-at i (h.at v) (B.place v)
+
   splits_by_entry : (i : ℕ) → (h.at v).at i (B.place v) ≢ 0 → IsSplitEpi h
   splits_by_entry i d =
-      let y = yoneda A W B X M v (unit q (X.dim v) i) in
-      let value : generator A W B v · (y ≫ h).at v ≡ row i (h.at v) =
-      ap (λ z. generator A W B v · z) (compose-at y h v) ∙ sym (mul_assoc_mat (generator A W B v) (y.at v) (h.at v))
-      ∙ ap (λ z. z · h.at v) (generator-yoneda A W B X M v (unit q (X.dim v) i)) ∙ unit_mul i (h.at v) in
-      let iso = iso_of_entry A W B v inside (y ≫ h) (λ e. d (sym (row-at i (h.at v) (B.place v)) ∙ ap (λ (z : Row q (W.count v v)). z.at 0 (B.place v)) (sym value) ∙ e)) in
-      record { section = iso.inverse ≫ y; is = compose_assoc iso.inverse y h ∙ iso.left }
+      let iso = iso_of_entry A W B v inside (to_unit i ≫ h) (λ e. d (sym (entry_of_unit i) ∙ e)) in
+      record { section = iso.inverse ≫ to_unit i; is = compose_assoc iso.inverse (to_unit i) h ∙ iso.left }
 
   entry_zero : ((i : ℕ) → i < X.dim v → (h.at v).at i (B.place v) ≡ 0) → (x : Row q (X.dim v)) → (x · h.at v).at 0 (B.place v) ≡ 0
   unfolding ◌·◌
