@@ -60,7 +60,7 @@ module _ {q : Gf} (A : BoundQuiver) {L E M : Rep q A.quiver} (f : Hom L E) (g : 
 
   module _ (not_split : IsSplitEpi g → ⊥) where
     -- An endomorphism of L that has one of E over M is not nilpotent.
-    not_nilpotent : (n : Hom L L) (p : Hom E E) → n ≫ f ≡ f ≫ p → p ≫ g ≡ g → IsNilpotent n → ⊥
+    pub not_nilpotent : (n : Hom L L) (p : Hom E E) → n ≫ f ≡ f ≫ p → p ≫ g ≡ g → IsNilpotent n → ⊥
     not_nilpotent n p s fixes z =
         let m = through_cokernel f g e.onto e.exact (power p z.exponent) (
         sym (power-shift n p f s z.exponent) ∙ ap (λ y. y ≫ f) z.vanishes ∙ zero_compose L f) in

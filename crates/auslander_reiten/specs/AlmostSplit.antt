@@ -4,7 +4,7 @@ use Rattle.linear_algebra.specs.Field.{Gf}
 use Rattle.representations.specs.Quiver.{Quiver, BoundQuiver}
 use Rattle.representations.specs.Rep.{Rep, IsMod}
 use Rattle.representations.specs.Hom.{Hom, ◌≫◌}
-use Rattle.representations.specs.Module.{IsMono, IsEpi, IsExact, IsSplitMono, IsSplitEpi}
+use Rattle.representations.specs.Module.{IsMono, IsEpi, IsExact, IsIso, IsSplitMono, IsSplitEpi}
 use Rattle.local_modules.specs.Local.{IsLocal}
 
 -- h lifts along g: it is another homomorphism and then g. h extends along f: it is f and then another homomorphism.
@@ -41,3 +41,12 @@ pub record AlmostSplitSequence {q : Gf} (A : BoundQuiver) (M : Rep q A.quiver) :
   pub f : Hom left_end middle_term
   pub g : Hom middle_term M
   pub almost_split : IsAlmostSplit A f g
+
+-- An isomorphism of two sequences that end in M, with the identity on M.
+pub record SequenceIsomorphism {q : Gf} {Q : Quiver} {L E M L' E' : Rep q Q} (f : Hom L E) (g : Hom E M) (f' : Hom L' E') (g' : Hom E' M) : Type 0 where
+  pub on_left : Hom L L'
+  pub on_middle : Hom E E'
+  pub left_iso : IsIso on_left
+  pub middle_iso : IsIso on_middle
+  pub square : on_left ≫ f' ≡ f ≫ on_middle
+  pub over : on_middle ≫ g' ≡ g

@@ -7,7 +7,7 @@ ghost use Rattle.linear_algebra.specs.Matrix.{zeros, one};
 ghost use Rattle.representations.specs.Quiver.{Quiver, BoundQuiver};
 ghost use Rattle.representations.specs.Rep.{Rep, IsMod};
 ghost use Rattle.representations.specs.Hom.{Hom, ◌≫◌, zero_hom};
-ghost use Rattle.representations.specs.Module.{IsSplitEpi};
+ghost use Rattle.representations.specs.Module.{IsSplitMono, IsSplitEpi};
 ghost use Rattle.projectives.specs.Families.{projectives};
 ghost use Rattle.projectives.specs.TwoSided.{TwoSided};
 ghost use Rattle.projectives.specs.Injective.{injectives};
@@ -51,4 +51,10 @@ pub fn lifting_property()
         → IsMod A X → (h : Hom X M) → Lifts g h ⊎ IsSplitEpi h }
     ensures not_split { (q : Gf) (A : BoundQuiver) (T : TwoSided q A) (L E M : Rep q A.quiver) (D : LocalPresentation T M)
         (F : EndFunctional T D) (f : Hom L E) (g : Hom E M) → SequenceData T D F f g → IsSplitEpi g → ⊥ }
+{}
+
+/// It is decided whether a homomorphism is a split epimorphism, and whether it is a split monomorphism. (Chapter IV, 1.)
+pub fn splitting_is_decided()
+    ensures epimorphisms { (q : Gf) (Q : Quiver) (X M : Rep q Q) (h : Hom X M) → IsSplitEpi h ⊎ (IsSplitEpi h → ⊥) }
+    ensures monomorphisms { (q : Gf) (Q : Quiver) (X M : Rep q Q) (h : Hom X M) → IsSplitMono h ⊎ (IsSplitMono h → ⊥) }
 {}

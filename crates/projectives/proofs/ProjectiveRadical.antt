@@ -59,7 +59,7 @@ module _ {q : Gf} (A : BoundQuiver) (W : Words q A.quiver) (B : IsWordBasis A W)
   ]
 
   -- One projective module.
-  one_in_radical : (v w : ℕ) (x : Row q (W.count v w)) → (v ≡ w → x.at 0 (B.place v) ≡ 0) → IsInRadical (projective W v) w x
+  pub one_in_radical : (v w : ℕ) (x : Row q (W.count v w)) → (v ≡ w → x.at 0 (B.place v) ≡ 0) → IsInRadical (projective W v) w x
   one_in_radical v w x z = subst (IsInRadical (projective W v) w) (sym (as_units x)) (radical_combine (W.count v w) (x.at 0) (unit q (W.count v w)) each)
     where
       each : (i : ℕ) → i < W.count v w → IsInRadical (projective W v) w (x.at 0 i ⊙ unit q (W.count v w) i)
