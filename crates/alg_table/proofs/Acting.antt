@@ -1,9 +1,9 @@
 -- The action of arrows by reduction is linear; how it acts on words.
-use Rattle.std.proofs.Common.{ℕ, ◌≡◌, ◌≢◌, ◌<◌, ◌⊎◌, inl, inr, List, [], ◌∷◌, ◌++◌, length, arith, Bool, true, false, if◌then◌else◌, eqb, ltb, refl, sym, ap, ap₂, ◌∙◌, subst}
+use Rattle.std.proofs.Common.{ℕ, ◌≡◌, ◌<◌, ◌⊎◌, inl, inr, List, [], ◌∷◌, ◌++◌, length, arith, Bool, true, false, if◌then◌else◌, eqb, ltb, refl, sym, ap, ap₂, ◌∙◌, subst}
 use Rattle.std.specs.Prelude.{Contains}
 use Rattle.std.proofs.lemmas.Bool.{cases_eq, cond-true, cond-false, eq-eqb, ne_eqb}
 use Rattle.linear_algebra.specs.Field.{Gf, order, add, mul}
-use Rattle.linear_algebra.specs.FieldLaws.{add_zero, zero_add, add_zero_zero, add_mul, mul_add, mul_zero, mul_one, zero_mul, mul_assoc, mul_left_comm, one_mul, mul_below, order-pos}
+use Rattle.linear_algebra.specs.FieldLaws.{add_zero, zero_add, add_zero_zero, add_mul, mul_add, mul_zero, mul_one, zero_mul, mul_assoc, mul_left_comm, one_mul}
 use Rattle.quiver_paths.specs.declared.Path.{Path}
 use mathlib.Core.Path.{fun_ext}
 use Rattle.quiver_paths.specs.Path.{IsPath, Leads, path_length, concat, arrow_path}

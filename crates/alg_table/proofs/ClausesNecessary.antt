@@ -1,19 +1,18 @@
 -- The normal words and the reduced rules meet the clauses.
-use Rattle.std.proofs.Common.{ℕ, ◌≡◌, ◌≢◌, ◌<◌, ◌≤◌, ◌+◌, ◌⊎◌, inl, inr, List, [], ◌∷◌, ◌++◌, length, map, refl, sym, ap, ap₂, ◌∙◌, subst, arith, mod-eq_of_lt, ltb, eqb, Bool, true, false, if◌then◌else◌}
+use Rattle.std.proofs.Common.{ℕ, ◌≡◌, ◌<◌, ◌+◌, ◌⊎◌, inl, inr, List, [], ◌∷◌, refl, sym, ap, ap₂, ◌∙◌, subst, arith, mod-eq_of_lt, ltb, eqb, Bool, true, false, if◌then◌else◌}
 use Rattle.linear_algebra.proofs.ReducedSpans.{sub_sub}
-use Rattle.std.specs.Prelude.{Contains, All, AllPairs}
+use Rattle.std.specs.Prelude.{Contains, All}
 use mathlib.Core.Path.{fun_ext}
 use Rattle.std.proofs.lemmas.Bool.{cases_lt, cases_eq, cond-true, cond-false, lt-ltb, le-ltb, eq-eqb, ne_eqb}
-use Rattle.std.proofs.lemmas.List.{append_assoc, append-nil}
-use Rattle.std.proofs.lemmas.List.Elements.{All-nil, All-cons, All-contains, All-contains_itself, All-weaker, All-head, All-tail}
+use Rattle.std.proofs.lemmas.List.Elements.{All-nil, All-contains, All-contains_itself, All-weaker, All-head}
 use Rattle.linear_algebra.specs.Field.{order, add, mul, sub}
-use Rattle.linear_algebra.specs.FieldLaws.{order-pos, mul_zero, mul_one, add_zero, sub_self, sub_zero, sub_eq_zero, sub_below}
+use Rattle.linear_algebra.specs.FieldLaws.{order-pos, mul_zero, mul_one, add_zero, sub_self, sub_eq_zero}
 use Rattle.quiver_paths.specs.declared.Path.{Path}
-use Rattle.quiver_paths.specs.Quiver.{arrow_count, source, target}
-use Rattle.quiver_paths.specs.Path.{IsPath, Leads, path_length, Meets, concat, trivial_path, arrow_path, IsFactor}
+use Rattle.quiver_paths.specs.Quiver.{arrow_count, source}
+use Rattle.quiver_paths.specs.Path.{IsPath, Leads, path_length, concat, trivial_path, arrow_path, IsFactor}
 use Rattle.quiver_paths.specs.PathOrder.{IsSmaller}
-use Rattle.quiver_paths.proofs.ListLemmas.{Contains-head, Contains-behind, Contains-cons_cases, Contains-from_map, AllPairs-head}
-use Rattle.quiver_paths.proofs.PathLemmas.{IsPath-concat, IsPath-arrow, IsPath-trivial, IsPath-end, path_length-concat, concat-trivial_left, concat-trivial_right, same_path}
+use Rattle.quiver_paths.proofs.ListLemmas.{Contains-head, Contains-cons_cases, Contains-from_map, AllPairs-head}
+use Rattle.quiver_paths.proofs.PathLemmas.{IsPath-concat, IsPath-arrow, IsPath-trivial, IsPath-end, path_length-concat, concat-trivial_left, concat-trivial_right}
 use Rattle.quiver_paths.proofs.PathOrderLemmas.{IsSmaller-irreflexive, IsSmaller-trans, IsSmaller-total}
 use Rattle.alg_table.specs.declared.Term.{Term}
 use Rattle.alg_table.specs.declared.Relation.{Relation}
@@ -26,14 +25,14 @@ use Rattle.alg_table.specs.Words.{IsShortPath, IsGreatestPath, IsTip, IsNormal, 
 use Rattle.alg_table.specs.Allowed.{IsAllowed, IsRelation, IsTerm, IsParallel}
 use Rattle.alg_table.specs.Rules.{AreElementTerms, rule_element, IsReducedRule, AreReducedRules}
 use Rattle.alg_table.specs.Derivations.{times_arrow, element_at, step_elements}
-use Rattle.alg_table.specs.Reduction.{HasNoTip, FirstOccurrence, IsReduction, sum_between, act_arrow, act_arrows, act_terms}
+use Rattle.alg_table.specs.Reduction.{HasNoTip, IsReduction, sum_between, act_arrow, act_arrows, act_terms}
 use Rattle.alg_table.specs.BasisClauses.{StepsHold, RuleHolds, ReducedHolds, WordsHold, ActionHolds, MeetsClauses}
 use Rattle.alg_table.proofs.Between.{cases_path, composite, middle-start, middle-end}
 use Rattle.alg_table.proofs.ElementLemmas.{path_element-self, path_element-other, path_element_support, product-add, product_support}
 use Rattle.alg_table.proofs.Combinations.{IsCombination, AreDistinct}
 use Rattle.alg_table.proofs.IdealLemmas.{IsInIdeal-same, IsInIdeal-zero, IsInIdeal-add, IsInIdeal-sub, IsInIdeal-product}
-use Rattle.alg_table.proofs.IdealProducts.{product-product_apart, product-mul}
-use Rattle.alg_table.proofs.IdealSteps.{product-other_ends, IsInIdeal-times_arrow}
+use Rattle.alg_table.proofs.IdealProducts.{product-mul}
+use Rattle.alg_table.proofs.IdealSteps.{IsInIdeal-times_arrow}
 use Rattle.alg_table.proofs.IdealActs.{parallel_terms, product-terms}
 use Rattle.alg_table.proofs.SumsOver.{sum_over_below, sum_over-nil, sum_over-same, sum_over-zeros, IsLinear, linear-same, linear-sum}
 use Rattle.alg_table.proofs.Acting.{combination_sum, along_by, starts_apart}

@@ -1,40 +1,37 @@
 -- What meets the five clauses: the words are the normal words and a basis of the quotient, and the rules are the reduced rules.
-use Rattle.std.proofs.Common.{ℕ, ◌≡◌, ◌≢◌, ◌<◌, ◌≤◌, ◌⊎◌, inl, inr, List, [], ◌∷◌, length, map, refl, sym, ap, ap₂, ◌∙◌, subst, arith, mod-eq_of_lt}
+use Rattle.std.proofs.Common.{ℕ, ◌≡◌, ◌≢◌, ◌<◌, ◌≤◌, inl, inr, List, [], ◌∷◌, map, refl, sym, ap, ap₂, ◌∙◌, subst, arith, mod-eq_of_lt}
 use Rattle.std.specs.Prelude.{Contains, All}
-use mathlib.Core.Path.{fun_ext}
-use Rattle.std.proofs.lemmas.Bool.{cases_lt, cases_eq}
+use Rattle.std.proofs.lemmas.Bool.{cases_eq}
 use Rattle.std.proofs.lemmas.List.{length-map}
 use Rattle.std.proofs.lemmas.List.Elements.{All-contains, All-contains_itself, All-map, All-weaker, All-head, All-tail}
 use Rattle.linear_algebra.specs.Field.{Gf, order, add, mul, sub}
-use Rattle.linear_algebra.specs.FieldLaws.{order-pos, mul_zero, zero_mul, mul_one, one_mul, add_zero_zero, sub_zero, sub_below, sub_eq_zero, sub_def, sub_self, one-lt-order}
+use Rattle.linear_algebra.specs.FieldLaws.{order-pos, mul_zero, zero_mul, mul_one, add_zero_zero, sub_zero, sub_eq_zero, one-lt-order}
 use Rattle.quiver_paths.specs.declared.Path.{Path}
-use Rattle.quiver_paths.specs.Path.{IsPath, path_length, concat, trivial_path, IsFactor}
+use Rattle.quiver_paths.specs.Path.{IsPath, path_length, IsFactor}
 use Rattle.quiver_paths.specs.PathOrder.{IsSmaller}
-use Rattle.quiver_paths.specs.declared.Quiver.{Quiver}
 use Rattle.quiver_paths.specs.PathList.{ListsPathsBelow, paths_below}
 use Rattle.quiver_paths.proofs.ListLemmas.{Contains-head, Contains-behind, Contains-map}
-use Rattle.quiver_paths.proofs.PathLemmas.{IsPath-factor, IsFactor-trans, IsFactor-itself, length-factor, trivial_from_length, concat-trivial_left, concat-trivial_right}
-use Rattle.quiver_paths.proofs.PathOrderLemmas.{IsSmaller-irreflexive, IsSmaller-asymmetric, IsSmaller-concat}
+use Rattle.quiver_paths.proofs.PathLemmas.{IsPath-factor, IsFactor-trans, length-factor}
+use Rattle.quiver_paths.proofs.PathOrderLemmas.{IsSmaller-irreflexive, IsSmaller-asymmetric}
 use Rattle.quiver_paths.proofs.PathListLemmas.{lists_paths_below}
 use Rattle.alg_table.specs.declared.Term.{Term}
 use Rattle.alg_table.specs.declared.Header.{Header}
 use Rattle.alg_table.specs.declared.rules.Rule.{Rule}
 use Rattle.alg_table.specs.declared.rules.Step.{Step}
-use Rattle.alg_table.specs.Elements.{sum_over, path_element, sum_of_terms, combination, product_between, middle}
-use Rattle.alg_table.specs.Ideals.{IsInIdeal, Congruent}
-use Rattle.alg_table.specs.Words.{IsShortPath, IsGreatestPath, IsTip, IsNormal, AreNormalWords, IsCoefficients, IsExpansion, HasOneExpansion, IsBasis}
+use Rattle.alg_table.specs.Elements.{sum_over, path_element, sum_of_terms, combination}
+use Rattle.alg_table.specs.Ideals.{IsInIdeal}
+use Rattle.alg_table.specs.Words.{IsShortPath, IsGreatestPath, IsTip, IsNormal, AreNormalWords, IsExpansion, IsBasis}
 use Rattle.alg_table.specs.Allowed.{IsAllowed}
-use Rattle.alg_table.specs.Rules.{AreElementTerms, rule_element, IsMinimalTip, IsReducedRule, AreReducedRules}
-use Rattle.alg_table.specs.Derivations.{element_at, step_elements}
-use Rattle.alg_table.specs.Reduction.{HasNoTip, FirstOccurrence, IsReduction}
-use Rattle.alg_table.specs.BasisClauses.{StepsHold, RuleHolds, RulesHold, ReducedHolds, WordsHold, ActionHolds, MeetsClauses, IsBasisClaim}
-use Rattle.alg_table.proofs.ElementLemmas.{path_element-self, path_element-other, path_element-below, path_element_support, combination-below, product-composite, product_support}
-use Rattle.alg_table.proofs.Between.{cases_path, composite, composite-middle, middle-start}
+use Rattle.alg_table.specs.Rules.{AreElementTerms, rule_element, IsReducedRule, AreReducedRules}
+use Rattle.alg_table.specs.Derivations.{element_at, step_elements, AreSteps}
+use Rattle.alg_table.specs.Reduction.{HasNoTip}
+use Rattle.alg_table.specs.BasisClauses.{RuleHolds, RulesHold, ReducedHolds, WordsHold, ActionHolds, MeetsClauses, IsBasisClaim}
+use Rattle.alg_table.proofs.ElementLemmas.{path_element-self, path_element-other, path_element_support, combination-below}
+use Rattle.alg_table.proofs.Between.{cases_path}
 use Rattle.linear_algebra.proofs.ReducedSpans.{sub_sub}
 use Rattle.alg_table.proofs.Combinations.{AreDistinct, combination-outside, combination-map, coefficients_from_combination, map-same}
-use Rattle.alg_table.proofs.IdealLemmas.{IsInIdeal-below, IsInIdeal-same, IsInIdeal-zero, IsInIdeal-add, IsInIdeal-mul, IsInIdeal-sub, IsInIdeal_support}
-use Rattle.alg_table.proofs.IdealProducts.{IsInIdeal-between}
-use Rattle.alg_table.proofs.SumsOver.{sum_over_below, sum_over-nil, sum_over-cons, sum_over-zeros}
+use Rattle.alg_table.proofs.IdealLemmas.{IsInIdeal-below, IsInIdeal-same, IsInIdeal-sub, IsInIdeal_support}
+use Rattle.alg_table.proofs.SumsOver.{sum_over_below, sum_over-zeros}
 use Rattle.alg_table.proofs.Acting.{sum_over-one, cases_listed}
 use Rattle.alg_table.proofs.Occurrences.{cases_occurrence}
 use Rattle.alg_table.proofs.Reducing.{AreRules, tail_term, becomes_below, becomes-outside, becomes-greater}
@@ -84,6 +81,25 @@ rule_greatest h rule short greater = record {
   ];
 }
 
+-- ---- where the steps and the rules hold
+
+module _ (h : Header) (steps : List Step) (rules : List Rule) (ok : IsAllowed h) (named : AreSteps h steps) (hold : RulesHold h steps rules) where
+  pub held_rule : (rule : Rule) → Contains rules rule → RuleHolds h steps rule
+  held_rule rule m = All-contains (RuleHolds h steps) rules rule hold m
+
+  -- each rule is in the ideal
+  pub rule_in_ideal : (rule : Rule) → Contains rules rule → IsInIdeal h (rule_element h rule)
+  rule_in_ideal rule m = IsInIdeal-same h (element_at (step_elements h steps) rule.step) (rule_element h rule) (held_rule rule m).derived (steps_are_members h ok steps named rule.step)
+
+  pub one_at_tip : (rule : Rule) → Contains rules rule → rule_element h rule rule.tip ≡ 1
+  one_at_tip rule m = rule_at_tip h rule (held_rule rule m).short (held_rule rule m).greater
+
+  -- a tip has two arrows or more
+  pub long_tip : (rule : Rule) → Contains rules rule → 2 ≤ path_length rule.tip
+  long_tip rule m = IsInIdeal-long h ok (rule_element h rule) (rule_in_ideal rule m) rule.tip (λ e. omega (arith, sym (one_at_tip rule m) ∙ e))
+
+-- ---- where all conditions hold
+
 -- Rules in the ideal, by which words are judged: tips are greater than tails, and the last three clauses hold.
 pub record AreSound (h : Header) (words : List Path) (rules : List Rule) : Type 0 where
   pub are : AreRules h rules
@@ -102,15 +118,12 @@ are_sound h words steps rules ok claim c = record {
     tails = claim.tails;
     greater = All-weaker (RuleHolds h steps) (λ (x : Rule). All (λ (a : Term). IsSmaller a.path x.tip) x.tail.terms) (λ x r. r.greater) rules c.rule;
   };
-  short = λ rule m. (holds rule m).short;
-  member = λ rule m. IsInIdeal-same h (element_at (step_elements h steps) rule.step) (rule_element h rule) (holds rule m).derived (steps_are_members h ok steps c.step.named rule.step);
+  short = λ rule m. (held_rule h steps rules ok c.step.named c.rule rule m).short;
+  member = rule_in_ideal h steps rules ok c.step.named c.rule;
   reduced = c.reduced;
   word = c.word;
   action = c.action;
 }
-  where
-    holds : (rule : Rule) → Contains rules rule → RuleHolds h steps rule
-    holds rule m = All-contains (RuleHolds h steps) rules rule c.rule m
 
 module _ (h : Header) (words : List Path) (rules : List Rule) (c : AreSound h words rules) where
   abbrev ok : IsAllowed h

@@ -1,19 +1,18 @@
 -- A path is congruent to what it becomes by reduction, where the rules are in the ideal.
-use Rattle.std.proofs.Common.{ℕ, ◌≡◌, ◌≢◌, ◌<◌, ◌≤◌, ◌⊎◌, inl, inr, List, [], ◌∷◌, ◌&&◌, Bool, true, false, if◌then◌else◌, eqb, refl, sym, ap, ap₂, ◌∙◌, subst}
+use Rattle.std.proofs.Common.{ℕ, ◌≡◌, ◌⊎◌, inl, inr, List, [], ◌∷◌, ◌&&◌, true, false, if◌then◌else◌, eqb, sym, ap, ap₂, ◌∙◌}
 use Rattle.std.specs.Prelude.{Contains}
 use mathlib.Core.Path.{fun_ext}
-use Rattle.std.proofs.lemmas.Bool.{cases_Bool, cases_eq, cond-true, cond-false, and_parts, and_from, and_left, and_right, eqb-true, eq-eqb, both_ways}
+use Rattle.std.proofs.lemmas.Bool.{cases_Bool, cases_eq, cond-true, cond-false, and_parts, and_from, eqb-true, eq-eqb, both_ways}
 use Rattle.linear_algebra.specs.Field.{Gf, add, mul, sub, neg}
-use Rattle.linear_algebra.specs.FieldLaws.{mul_zero, sub_def, sub_self, add_assoc, neg_add_self, zero_add, neg_below, mul_add, mul_neg, neg-add, add_swap, one_mul, add_zero_zero, neg_zero, neg_mul, one_mul-mod, neg-mod, add_comm, neg_neg, add-mod_right, add_neg, zero_add-mod}
+use Rattle.linear_algebra.specs.FieldLaws.{mul_zero, sub_def, sub_self, add_assoc, neg_add_self, zero_add, neg_below, mul_add, mul_neg, neg-add, add_swap, one_mul, neg_mul, one_mul-mod, neg-mod}
 use Rattle.quiver_paths.specs.declared.Path.{Path}
-use Rattle.quiver_paths.specs.Path.{IsPath, path_length, Meets, concat}
+use Rattle.quiver_paths.specs.Path.{IsPath, Meets}
 use Rattle.quiver_paths.proofs.ListLemmas.{Contains-head, Contains-behind}
 use Rattle.alg_table.specs.declared.Term.{Term}
 use Rattle.alg_table.specs.declared.Header.{Header}
 use Rattle.alg_table.specs.declared.rules.Rule.{Rule}
 use Rattle.alg_table.specs.Elements.{sum_over, path_element, sum_of_terms, product_between, middle}
 use Rattle.alg_table.specs.Ideals.{IsInIdeal}
-use Rattle.alg_table.specs.Words.{IsShortPath}
 use Rattle.alg_table.specs.Rules.{rule_element}
 use Rattle.alg_table.specs.Reduction.{sum_between, IsReduction}
 use Rattle.alg_table.proofs.Between.{composite, middle-start, middle-end}
@@ -49,7 +48,7 @@ product-sub q t u x y v p =
     minus a = sym (neg_mul q 1 a ∙ ap (neg q) (one_mul-mod q a) ∙ neg-mod q a)
 
 -- a multiple of a path between two others, zero where they do not meet
-product-one : (q : Gf) (t : ℕ) (u v : Path) (a : Term) (p : Path) → product_between t u (λ r. mul q a.coef (path_element t a.path r)) v p
+pub product-one : (q : Gf) (t : ℕ) (u v : Path) (a : Term) (p : Path) → product_between t u (λ r. mul q a.coef (path_element t a.path r)) v p
     ≡ (if eqb u.end a.path.start && eqb a.path.end v.start then mul q a.coef (path_element t (composite u a.path v) p) else 0)
 product-one q t u v a p = elim (cases_Bool (eqb u.end a.path.start && eqb a.path.end v.start)) [
   | inl e ↦

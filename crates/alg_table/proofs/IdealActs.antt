@@ -1,5 +1,5 @@
 -- Where each relation and each path of the bound's length acts as zero, the ideal does, and so a member of it that is a combination of words is zero.
-use Rattle.std.proofs.Common.{ℕ, ◌≡◌, ◌≢◌, ◌<◌, ◌≤◌, ◌⊎◌, inl, inr, List, [], ◌∷◌, ◌++◌, map, refl, sym, ap, ap₂, ◌∙◌, subst, arith, ltb}
+use Rattle.std.proofs.Common.{ℕ, ◌≡◌, ◌≢◌, ◌<◌, ◌≤◌, ◌⊎◌, inl, inr, List, [], ◌∷◌, ◌++◌, refl, sym, ap, ap₂, ◌∙◌, subst, arith}
 use Rattle.std.specs.Prelude.{Contains, All, AllPairs}
 use mathlib.Core.Path.{fun_ext}
 use Rattle.std.proofs.lemmas.Bool.{cases_lt, cases_eq, cond-true, cond-false, lt-ltb, le-ltb}
@@ -7,8 +7,7 @@ use Rattle.std.proofs.lemmas.List.Elements.{All-contains, All-head, All-tail}
 use Rattle.linear_algebra.specs.Field.{order, add, mul}
 use Rattle.linear_algebra.specs.FieldLaws.{zero_mul, mul_zero, mul_one, one_mul, add_mul, mul_assoc, add_zero_zero}
 use Rattle.quiver_paths.specs.declared.Path.{Path}
-use Rattle.quiver_paths.specs.Path.{IsPath, path_length, Meets, concat, trivial_path}
-use Rattle.quiver_paths.specs.PathOrder.{IsAscending}
+use Rattle.quiver_paths.specs.Path.{IsPath, path_length, concat, trivial_path}
 use Rattle.quiver_paths.specs.PathList.{paths_below}
 use Rattle.quiver_paths.proofs.ListLemmas.{Contains-head, Contains-behind, Contains-cons_cases, Contains-nil, Contains-from_map, AllPairs-head, AllPairs-tail}
 use Rattle.quiver_paths.proofs.PathLemmas.{IsPath-concat, IsPath-trivial, cut}
@@ -20,7 +19,7 @@ use Rattle.alg_table.specs.declared.rules.Rule.{Rule}
 use Rattle.alg_table.specs.Elements.{sum_over, path_element, sum_of_terms, product_between, middle}
 use Rattle.alg_table.specs.Ideals.{Summand, IsSummand, relation_element, summand_element, sum_of_summands, IsInIdeal}
 use Rattle.alg_table.specs.Allowed.{IsAllowed, IsRelation, IsTerm, IsParallel}
-use Rattle.alg_table.specs.Reduction.{act_arrow, act_arrows, act_terms}
+use Rattle.alg_table.specs.Reduction.{act_arrows, act_terms}
 use Rattle.alg_table.proofs.Between.{composite, composite-middle, middle-start, middle-end}
 use Rattle.alg_table.proofs.ElementLemmas.{path_element-self, path_element-other, path_element-long, product-path, product-add, product_support}
 use Rattle.alg_table.proofs.IdealLemmas.{terms_support, relation_support}

@@ -1,13 +1,12 @@
 -- The ideal is closed under paths on both sides.
-use Rattle.std.proofs.Common.{ℕ, ◌≡◌, ◌≢◌, ◌<◌, ◌≤◌, ◌+◌, ◌⊎◌, inl, inr, List, [], ◌∷◌, ◌++◌, ◌&&◌, true, false, eqb, leb, ltb, refl, sym, ap, ap₂, ◌∙◌, subst, arith, length-append}
-use Rattle.std.specs.Prelude.{Contains, All, nat_eq}
-use mathlib.Core.Path.{fun_ext}
-use Rattle.std.proofs.lemmas.Bool.{cases_Bool, cases_eq, cases_lt, cond-true, cond-false, and_parts, eqb-true, both_ways}
+use Rattle.std.proofs.Common.{ℕ, ◌≡◌, ◌≢◌, ◌<◌, ◌+◌, ◌⊎◌, inl, inr, List, [], ◌∷◌, ◌&&◌, true, eqb, ltb, refl, sym, ap, ◌∙◌, subst, arith}
+use Rattle.std.specs.Prelude.{Contains, All}
+use Rattle.std.proofs.lemmas.Bool.{cases_Bool, cases_eq, cases_lt, and_parts, eqb-true, both_ways}
 use Rattle.std.proofs.lemmas.List.Elements.{All-head, All-tail}
-use Rattle.linear_algebra.specs.Field.{Gf, order, add, mul}
+use Rattle.linear_algebra.specs.Field.{Gf, add, mul}
 use Rattle.linear_algebra.specs.FieldLaws.{mul_zero}
 use Rattle.quiver_paths.specs.declared.Path.{Path}
-use Rattle.quiver_paths.specs.Path.{IsPath, path_length, concat, trivial_path}
+use Rattle.quiver_paths.specs.Path.{IsPath, path_length, concat}
 use Rattle.quiver_paths.proofs.PathLemmas.{IsPath-concat, path_length-concat, concat_assoc}
 use Rattle.alg_table.specs.declared.Relation.{Relation}
 use Rattle.alg_table.specs.declared.Header.{Header}

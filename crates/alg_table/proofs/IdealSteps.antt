@@ -1,14 +1,14 @@
 -- The steps of a derivation are members of the ideal.
-use Rattle.std.proofs.Common.{ℕ, zero, suc, ◌≡◌, ◌≢◌, ◌<◌, ◌≤◌, ◌+◌, ◌-◌, ◌⊎◌, inl, inr, List, [], ◌∷◌, ◌++◌, length, map, length-append, refl, sym, ap, ap₂, ◌∙◌, subst, arith, ◌&&◌, eqb, false}
-use Rattle.std.specs.Prelude.{Contains, All, slice_index_or}
-use Rattle.std.proofs.lemmas.Bool.{cases_lt, cases_eq, cases_Bool, and_left, and_right, ne_eqb, both_ways}
+use Rattle.std.proofs.Common.{ℕ, suc, ◌≡◌, ◌≢◌, ◌<◌, ◌+◌, ◌-◌, inl, inr, List, [], ◌∷◌, ◌++◌, length, map, length-append, refl, sym, ap, ap₂, ◌∙◌, subst, arith}
+use Rattle.std.specs.Prelude.{Contains, slice_index_or}
+use Rattle.std.proofs.lemmas.Bool.{cases_lt, cases_eq}
 use Rattle.std.proofs.lemmas.List.{get_or_past, get_or_append_left}
 use Rattle.std.proofs.Math.Seq.{get_or-append_seam}
 use Rattle.std.proofs.lemmas.List.Elements.{All-contains, Contains-get_or}
 use Rattle.linear_algebra.specs.Field.{Gf, add, mul}
 use Rattle.linear_algebra.specs.FieldLaws.{mul_zero, add_zero_zero}
 use Rattle.quiver_paths.specs.declared.Path.{Path}
-use Rattle.quiver_paths.specs.Path.{IsPath, path_length, concat, trivial_path, arrow_path}
+use Rattle.quiver_paths.specs.Path.{path_length, concat, trivial_path, arrow_path}
 use Rattle.quiver_paths.specs.Quiver.{HasEnds, arrow_count, source, target}
 use Rattle.quiver_paths.proofs.ListLemmas.{Contains-head, Contains-from_map}
 use Rattle.quiver_paths.proofs.PathLemmas.{IsPath-concat, IsPath-arrow, IsPath-trivial, IsPath-end, concat-trivial_left, concat-trivial_right}
@@ -19,7 +19,7 @@ use Rattle.alg_table.specs.declared.rules.Step.TheVariants.{Relation as FromRela
 use Rattle.alg_table.specs.declared.Term.{Term}
 use Rattle.alg_table.specs.Elements.{path_element, sum_of_terms, product_between, middle}
 use Rattle.alg_table.specs.Ideals.{relation_element, IsInIdeal}
-use Rattle.alg_table.specs.Allowed.{IsAllowed, IsRelation, IsTerm, IsParallel}
+use Rattle.alg_table.specs.Allowed.{IsAllowed, IsRelation, IsTerm}
 use Rattle.alg_table.specs.Derivations.{arrow_times, times_arrow, element_at, step_element, elements_behind, NamesEarlier, AreSteps, step_elements}
 use Rattle.alg_table.proofs.Between.{composite, composite-middle}
 use Rattle.alg_table.proofs.ElementLemmas.{path_element_support, product-composite, product_support, product-add}

@@ -1,37 +1,27 @@
 -- The words are independent modulo the ideal, since the ideal acts as zero.
-use Rattle.std.proofs.Common.{ℕ, zero, suc, ◌≡◌, ◌≢◌, ◌<◌, ◌≤◌, ◌+◌, ◌⊎◌, inl, inr, List, [], ◌∷◌, ◌++◌, ◌&&◌, length, Bool, true, false, if◌then◌else◌, eqb, ltb, refl, sym, ap, ap₂, ◌∙◌, subst, arith}
-use Rattle.std.specs.Prelude.{Contains, All, AllPairs}
+use Rattle.std.proofs.Common.{ℕ, ◌≡◌, ◌<◌, ◌≤◌, inl, inr, List, [], ◌∷◌, ◌++◌, refl, sym, ap, ◌∙◌, subst, arith}
+use Rattle.std.specs.Prelude.{Contains, All}
 use mathlib.Core.Path.{fun_ext}
-use Rattle.std.proofs.lemmas.Bool.{cases_Bool, cases_lt, cases_eq, cond-true, cond-false, and_parts, and_from, eqb-true, eq-eqb, ne_eqb, lt-ltb, le-ltb}
+use Rattle.std.proofs.lemmas.Bool.{cases_eq, cond-true, cond-false, eq-eqb, ne_eqb}
 use Rattle.std.proofs.lemmas.List.{append_assoc, append-nil}
-use Rattle.std.proofs.lemmas.List.Elements.{All-nil, All-cons, All-contains, All-head, All-tail}
-use Rattle.quiver_paths.proofs.ListLemmas.{Contains-head, Contains-behind, Contains-cons_cases, Contains-nil}
-use Rattle.linear_algebra.specs.Field.{Gf, order, add, mul, sub}
-use Rattle.linear_algebra.specs.FieldLaws.{order-pos, zero_mul, mul_zero, mul_one, one_mul, add_mul, mul_assoc, add_zero_zero}
+use Rattle.std.proofs.lemmas.List.Elements.{All-nil, All-cons, All-head, All-tail}
+use Rattle.linear_algebra.specs.Field.{mul}
+use Rattle.linear_algebra.specs.FieldLaws.{mul_zero}
 use Rattle.quiver_paths.specs.declared.Quiver.{Quiver}
 use Rattle.quiver_paths.specs.declared.Path.{Path}
 use Rattle.quiver_paths.specs.Quiver.{arrow_count, source, target}
-use Rattle.quiver_paths.specs.Path.{IsPath, Leads, path_length, Meets, concat, trivial_path, arrow_path, IsFactor}
-use Rattle.quiver_paths.specs.PathOrder.{IsAscending}
-use Rattle.quiver_paths.specs.PathParts.{IsCut}
-use Rattle.quiver_paths.specs.PathList.{paths_below}
-use Rattle.quiver_paths.proofs.PathLemmas.{IsPath-concat, IsPath-arrow, IsPath-trivial, IsPath-same, Leads-between, Leads-one, cut, same_path, concat_assoc, concat-trivial_left, IsFactor-trans, length-factor, path_length-concat}
-use Rattle.quiver_paths.proofs.PathListLemmas.{lists_paths_below}
-use Rattle.alg_table.specs.declared.Term.{Term}
-use Rattle.alg_table.specs.declared.Relation.{Relation}
+use Rattle.quiver_paths.specs.Path.{IsPath, Leads, path_length, Meets, concat, trivial_path, arrow_path}
+use Rattle.quiver_paths.proofs.PathLemmas.{IsPath-concat, IsPath-arrow, IsPath-trivial, IsPath-same, Leads-between, Leads-one, same_path, concat-trivial_left, IsFactor-trans, length-factor, path_length-concat}
 use Rattle.alg_table.specs.declared.Header.{Header}
 use Rattle.alg_table.specs.declared.rules.Rule.{Rule}
-use Rattle.alg_table.specs.Elements.{sum_over, path_element, sum_of_terms, product_between}
-use Rattle.alg_table.specs.Ideals.{Summand, IsSummand, relation_element, summand_element, sum_of_summands, IsInIdeal}
+use Rattle.alg_table.specs.Elements.{sum_over, path_element}
 use Rattle.alg_table.specs.Words.{IsShortPath}
-use Rattle.alg_table.specs.Allowed.{IsAllowed, IsRelation, IsTerm, IsParallel}
-use Rattle.alg_table.specs.Reduction.{HasNoTip, IsReduction, act_arrow, act_arrows, act_terms, sum_between}
+use Rattle.alg_table.specs.Reduction.{IsReduction, act_arrow, act_arrows}
 use Rattle.alg_table.specs.BasisClauses.{ReducedHolds, WordsHold}
-use Rattle.alg_table.proofs.Between.{cases_path}
-use Rattle.alg_table.proofs.ElementLemmas.{path_element-self, path_element-other, path_element-long, path_element-below, path_element_support}
+use Rattle.alg_table.proofs.ElementLemmas.{path_element-other, path_element-below}
 use Rattle.alg_table.proofs.Combinations.{IsCombination}
-use Rattle.alg_table.proofs.SumsOver.{sum_over_below, sum_over-same, sum_over-zeros, sum_over-add, mul-sum_over, IsLinear, linear-same, linear-zero, linear-sum}
-use Rattle.alg_table.proofs.Acting.{act_arrows-linear, act_arrow-word, combination_sum}
+use Rattle.alg_table.proofs.SumsOver.{sum_over_below, sum_over-zeros, IsLinear, linear-same, linear-sum}
+use Rattle.alg_table.proofs.Acting.{act_arrow-word, combination_sum}
 use Rattle.alg_table.proofs.Reducing.{AreRules, becomes_below, becomes-outside}
 
 -- the arrows of a path are arrows

@@ -26,3 +26,12 @@ pub mod NormalForms
 pub mod ClausesSuffice
 pub mod ClausesNecessary
 pub mod ReductionExists
+pub mod TermLists
+pub mod Merging
+pub mod TermProducts
+pub mod Derived
+pub mod DerivedRules
+pub mod TipPlaces
+pub mod TipFactors
+pub mod LocalWords
+pub mod LongTips

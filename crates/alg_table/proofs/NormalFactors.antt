@@ -1,18 +1,17 @@
 -- Normal paths and their factors: a short path is normal or a tip, factors of normal paths are normal, and each tip has a minimal tip as a factor.
-use Rattle.std.proofs.Common.{ℕ, zero, suc, ◌≡◌, ◌≢◌, ◌<◌, ◌≤◌, ◌⊎◌, inl, inr, List, [], length, get_or, reverse, refl, sym, ap, ap₂, ◌∙◌, subst, arith}
-use Rattle.std.specs.Prelude.{Contains}
+use Rattle.std.proofs.Common.{ℕ, zero, suc, ◌≡◌, ◌<◌, ◌≤◌, ◌⊎◌, inl, inr, List, [], length, get_or, reverse, refl, sym, ap, ap₂, ◌∙◌, subst, arith}
 use Rattle.std.proofs.lemmas.Bool.{cases_lt}
 use Rattle.linear_algebra.proofs.Rows.{IsInSpan-row}
-use Rattle.linear_algebra.specs.Reduced.{leading, pivot}
+use Rattle.linear_algebra.specs.Reduced.{leading}
 use Rattle.quiver_paths.specs.declared.Quiver.{Quiver}
 use Rattle.quiver_paths.specs.declared.Path.{Path}
 use Rattle.quiver_paths.specs.Quiver.{HasEnds}
 use Rattle.quiver_paths.specs.Path.{IsPath, path_length, Meets, concat, trivial_path, arrow_path, IsFactor}
 use Rattle.quiver_paths.specs.PathOrder.{IsSmaller}
-use Rattle.quiver_paths.specs.PathParts.{IsCut, IsThenArrow, IsArrowThen}
+use Rattle.quiver_paths.specs.PathParts.{IsThenArrow, IsArrowThen}
 use Rattle.quiver_paths.specs.PathList.{paths_below}
 use Rattle.quiver_paths.proofs.PathLemmas.{IsPath-concat, IsPath-trivial, IsPath-end, IsPath-arrow, IsPath-factor, IsFactor-trans, IsFactor-itself, length-factor, trivial_from_length, concat_assoc, concat-trivial_left, concat-trivial_right, path_length-concat, cut_once, begins_with_arrow, ends_with_arrow, length-then_arrow, length-arrow_then}
-use Rattle.quiver_paths.proofs.PathOrderLemmas.{IsSmaller-concat, cases_path}
+use Rattle.quiver_paths.proofs.PathOrderLemmas.{IsSmaller-concat}
 use Rattle.quiver_paths.proofs.PathListLemmas.{lists_paths_below}
 use Rattle.alg_table.specs.declared.Header.{Header}
 use Rattle.alg_table.specs.Elements.{product_between, middle}

@@ -1,8 +1,8 @@
 -- The normal form of a path: the combination of normal words that it is congruent to.
-use Rattle.std.proofs.Common.{ℕ, ◌≡◌, ◌≢◌, ◌<◌, ◌≤◌, ◌⊎◌, inl, inr, List, [], map, refl, sym, ap, ap₂, ◌∙◌, subst, arith}
+use Rattle.std.proofs.Common.{ℕ, ◌≡◌, ◌≤◌, ◌⊎◌, inl, inr, List, [], map, refl, sym, ap, ap₂, ◌∙◌, subst}
 use Rattle.std.specs.Prelude.{Contains}
 use Rattle.std.proofs.lemmas.Bool.{cases_lt}
-use Rattle.linear_algebra.specs.Field.{order, add, mul, sub}
+use Rattle.linear_algebra.specs.Field.{sub}
 use Rattle.linear_algebra.specs.FieldLaws.{order-pos, sub_zero, sub_below, sub_self, sub_eq_zero}
 use Rattle.quiver_paths.specs.declared.Path.{Path}
 use Rattle.quiver_paths.specs.Path.{IsPath, path_length}
@@ -15,7 +15,7 @@ use Rattle.alg_table.specs.Words.{IsShortPath, AreNormalWords, IsBasis}
 use Rattle.alg_table.specs.Allowed.{IsAllowed}
 use Rattle.alg_table.proofs.ElementLemmas.{path_element-below, path_element-other, path_element-long, combination-below}
 use Rattle.alg_table.proofs.Combinations.{IsCombination, AreDistinct, combination-outside, combination-map}
-use Rattle.alg_table.proofs.IdealLemmas.{IsInIdeal-below, IsInIdeal-same, IsInIdeal-zero, IsInIdeal-sub}
+use Rattle.alg_table.proofs.IdealLemmas.{IsInIdeal-same, IsInIdeal-zero, IsInIdeal-sub}
 use Rattle.alg_table.proofs.Quotient.{sub-sub_sub, same_combination}
 use Rattle.alg_table.proofs.AllRows.{IdealRows, ideal_rows, normal_words_are_basis}
 use Rattle.alg_table.proofs.Acting.{cases_listed}

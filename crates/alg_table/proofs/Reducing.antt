@@ -1,10 +1,10 @@
 -- What a path becomes by reduction: a combination of words that are no greater, congruent to it where the rules are in the ideal.
-use Rattle.std.proofs.Common.{ℕ, ◌≡◌, ◌≢◌, ◌<◌, ◌≤◌, ◌⊎◌, inl, inr, List, [], ◌∷◌, ◌&&◌, Bool, true, false, if◌then◌else◌, eqb, refl, sym, ap, ap₂, ◌∙◌, subst, arith}
+use Rattle.std.proofs.Common.{ℕ, ◌≡◌, ◌<◌, ◌≤◌, inl, inr, List, ◌&&◌, eqb, sym, ap, ◌∙◌, subst}
 use Rattle.std.specs.Prelude.{Contains, All}
-use Rattle.std.proofs.lemmas.Bool.{cases_Bool, cases_lt, cases_eq, cond-true, cond-false, and_parts, and_from, eqb-true, eq-eqb}
+use Rattle.std.proofs.lemmas.Bool.{cases_Bool, cases_lt, cond-true, cond-false, and_parts, eqb-true}
 use Rattle.std.proofs.lemmas.List.Elements.{All-contains}
-use Rattle.linear_algebra.specs.Field.{Gf, order, add, mul, sub}
-use Rattle.linear_algebra.specs.FieldLaws.{order-pos, mul_zero, sub_self}
+use Rattle.linear_algebra.specs.Field.{order, mul}
+use Rattle.linear_algebra.specs.FieldLaws.{order-pos, mul_zero}
 use Rattle.quiver_paths.specs.declared.Path.{Path}
 use Rattle.quiver_paths.specs.Path.{IsPath, path_length, Meets, concat}
 use Rattle.quiver_paths.specs.PathOrder.{IsSmaller}
@@ -14,12 +14,11 @@ use Rattle.quiver_paths.proofs.PathListLemmas.{smaller_induction}
 use Rattle.alg_table.specs.declared.Term.{Term}
 use Rattle.alg_table.specs.declared.Header.{Header}
 use Rattle.alg_table.specs.declared.rules.Rule.{Rule}
-use Rattle.alg_table.specs.Elements.{path_element}
 use Rattle.alg_table.specs.Words.{IsShortPath}
 use Rattle.alg_table.specs.Allowed.{IsAllowed}
 use Rattle.alg_table.specs.Rules.{AreElementTerms}
 use Rattle.alg_table.specs.Reduction.{HasNoTip, FirstOccurrence, sum_between, IsReduction}
-use Rattle.alg_table.specs.BasisClauses.{ReducedHolds, WordsHold}
+use Rattle.alg_table.specs.BasisClauses.{WordsHold}
 use Rattle.alg_table.proofs.ElementLemmas.{path_element-below, path_element-other}
 use Rattle.alg_table.proofs.SumsOver.{sum_over_below, sum_over-zeros}
 use Rattle.alg_table.proofs.Occurrences.{cases_occurrence}

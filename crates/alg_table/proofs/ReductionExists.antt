@@ -1,12 +1,12 @@
 -- Where no tip has another as a factor, there is a reduction: each path becomes something, in one way.
-use Rattle.std.proofs.Common.{ℕ, zero, suc, ◌≡◌, ◌≢◌, ◌<◌, ◌≤◌, ◌+◌, ◌-◌, ◌⊎◌, inl, inr, List, [], ◌∷◌, length, ◌&&◌, true, false, eqb, refl, sym, ap, ap₂, ◌∙◌, subst, arith}
-use Rattle.std.specs.Prelude.{Contains, All, AllPairs}
+use Rattle.std.proofs.Common.{ℕ, zero, suc, ◌≡◌, ◌≢◌, ◌<◌, ◌≤◌, ◌+◌, ◌-◌, ◌⊎◌, inl, inr, List, [], ◌∷◌, ◌&&◌, eqb, refl, sym, ap, ◌∙◌, subst, arith}
+use Rattle.std.specs.Prelude.{Contains, AllPairs}
 use Rattle.std.proofs.lemmas.List.Elements.{All-contains}
 use Rattle.std.proofs.lemmas.Bool.{cases_lt, cases_eq, cases_Bool, and_parts, eqb-true, cond-true, cond-false}
 use Rattle.linear_algebra.specs.Field.{mul}
 use Rattle.quiver_paths.specs.declared.Quiver.{Quiver}
 use Rattle.quiver_paths.specs.declared.Path.{Path}
-use Rattle.quiver_paths.specs.Quiver.{HasEnds, arrow_count, vertex_count, source, target}
+use Rattle.quiver_paths.specs.Quiver.{arrow_count, vertex_count, source, target}
 use Rattle.quiver_paths.specs.Path.{IsPath, Leads, path_length, Meets, concat, trivial_path, IsFactor}
 use Rattle.quiver_paths.specs.PathOrder.{IsSmaller}
 use Rattle.quiver_paths.proofs.ListLemmas.{Contains-head, Contains-behind, Contains-cons_cases, Contains-nil, AllPairs-head, AllPairs-tail}
@@ -18,7 +18,6 @@ use Rattle.alg_table.specs.declared.Term.{Term}
 use Rattle.alg_table.specs.declared.Header.{Header}
 use Rattle.alg_table.specs.declared.rules.Rule.{Rule}
 use Rattle.alg_table.specs.Elements.{path_element}
-use Rattle.alg_table.specs.Words.{IsShortPath}
 use Rattle.alg_table.specs.Reduction.{HasNoTip, FirstOccurrence, sum_between, IsReduction}
 use Rattle.alg_table.proofs.SumsOver.{sum_over-same}
 use Rattle.alg_table.proofs.Occurrences.{cases_occurrence}

@@ -1,5 +1,5 @@
 -- Sums over lists, and linear functions on elements.
-use Rattle.std.proofs.Common.{ℕ, ◌≡◌, ◌≢◌, ◌<◌, List, [], ◌∷◌, ◌++◌, refl, sym, ap, ap₂, ◌∙◌}
+use Rattle.std.proofs.Common.{ℕ, ◌≡◌, ◌<◌, List, [], ◌∷◌, ◌++◌, refl, sym, ap, ap₂, ◌∙◌}
 use Rattle.std.specs.Prelude.{Contains}
 use mathlib.Core.Path.{fun_ext}
 use Rattle.linear_algebra.specs.Field.{Gf, order, add, mul}

@@ -1,5 +1,5 @@
 -- Derivations: how elements of the ideal come from the relations, step by step. Relations and steps are counted from 1, arrows from 0.
-use Rattle.std.specs.Prelude.{ℕ, ◌≡◌, ◌<◌, ◌≤◌, ◌-◌, List, [], ◌∷◌, ◌++◌, length, map, slice_index_or}
+use Rattle.std.specs.Prelude.{ℕ, ◌<◌, ◌≤◌, ◌-◌, List, [], ◌∷◌, ◌++◌, length, map, slice_index_or}
 use Rattle.linear_algebra.specs.Field.{add, mul}
 use Rattle.quiver_paths.specs.declared.Path.{Path}
 use Rattle.quiver_paths.specs.Path.{trivial_path, arrow_path}

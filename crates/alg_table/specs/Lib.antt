@@ -9,3 +9,7 @@ pub mod Rules
 pub mod Derivations
 pub mod Reduction
 pub mod BasisClauses
+pub mod ElementTerms
+pub mod Occurring
+pub mod WordChecks
+pub mod FirstClauses

@@ -1,6 +1,6 @@
 -- Reduction of paths by rules, and the action of arrows on words by reduction. (Green.)
-use Rattle.std.specs.Prelude.{ℕ, ◌≡◌, ◌<◌, ◌≤◌, List, [], ◌∷◌, Contains, ◌&&◌, if◌then◌else◌, ◌==◌, nat_lt}
-use Rattle.linear_algebra.specs.Field.{add, mul}
+use Rattle.std.specs.Prelude.{ℕ, ◌≡◌, ◌≤◌, List, [], ◌∷◌, Contains, ◌&&◌, if◌then◌else◌, ◌==◌, nat_lt}
+use Rattle.linear_algebra.specs.Field.{mul}
 use Rattle.quiver_paths.specs.declared.Path.{Path}
 use Rattle.quiver_paths.specs.Path.{IsPath, path_length, Meets, concat, arrow_path, IsFactor}
 use Rattle.quiver_paths.specs.Quiver.{source}

@@ -1,5 +1,5 @@
 -- Rules of an ideal: a path, the tip, and the combination of smaller paths that it is congruent to. (Green's reduced Gröbner bases for path algebras.)
-use Rattle.std.specs.Prelude.{ℕ, ◌≡◌, ◌≢◌, ◌<◌, List, map, Contains, All, AllPairs}
+use Rattle.std.specs.Prelude.{ℕ, ◌≢◌, ◌<◌, List, map, Contains, All, AllPairs}
 use Rattle.linear_algebra.specs.Field.{order, sub}
 use Rattle.quiver_paths.specs.declared.Path.{Path}
 use Rattle.quiver_paths.specs.Path.{IsFactor}

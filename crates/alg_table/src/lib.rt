@@ -8,14 +8,22 @@ use quiver_paths::{Path, Quiver};
 use seq::Seq;
 use std::alloc::AllocError;
 
+mod clauses;
 mod closing;
 mod closure;
+mod derivations;
+mod first_clauses;
 pub mod laws;
 mod products;
+mod reduced;
 mod rules;
+mod sums;
 mod table;
+mod tips;
+mod words;
 
 pub use closing::close_rows;
+pub use first_clauses::first_fault;
 pub use rules::{BasisFault, Element, Rule, Step};
 pub use table::Table;
 

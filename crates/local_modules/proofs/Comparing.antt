@@ -45,10 +45,10 @@ by_units {q} {m} P none more x = subst P (sym (as_units x)) (go m (omega arith))
     go zero l = none
     go (suc s) l = more (combine s (x.at 0) (unit q m)) (x.at 0 s) s (omega (arith, l)) (go s (omega (arith, l)))
 
-module _ {q : Gf} {Q : Quiver} {X Y : Rep q Q} (L : IsLocal X) (B : HomBasis X Y) (C : HomBasis Y X) where
-  hom-zeros : {U V : Rep q Q} (D : HomBasis U V) → D.hom (zeros q 1 D.size) ≡ zero_hom U V
-  hom-zeros {U} {V} D = ap D.hom (sym (zero_scale (zeros q 1 D.size))) ∙ hom_scale D 0 (zeros q 1 D.size) ∙ zero_multiple (D.hom (zeros q 1 D.size))
+pub hom-zeros : {q : Gf} {Q : Quiver} {U V : Rep q Q} (D : HomBasis U V) → D.hom (zeros q 1 D.size) ≡ zero_hom U V
+hom-zeros {q} D = ap D.hom (sym (zero_scale (zeros q 1 D.size))) ∙ hom_scale D 0 (zeros q 1 D.size) ∙ zero_multiple (D.hom (zeros q 1 D.size))
 
+module _ {q : Gf} {Q : Quiver} {X Y : Rep q Q} (L : IsLocal X) (B : HomBasis X Y) (C : HomBasis Y X) where
   more_of : {U V : Rep q Q} (D : HomBasis U V) (r : Row q D.size) (c i : ℕ) → D.hom (r ⊞ c ⊙ unit q D.size i) ≡ D.hom r ⊕ multiple c (D.hom (unit q D.size i))
   more_of D r c i = hom_sum D r (c ⊙ unit q D.size i) ∙ ap (λ z. D.hom r ⊕ z) (hom_scale D c (unit q D.size i))
 

@@ -59,7 +59,7 @@ skip_once k i j e = elim (cases_lt i k) [
 
 module _ {q : Gf} {Q : Quiver} where
   -- a sum, with one member taken out
-  sum_of-skip : {X Y : Rep q Q} (n k : ℕ) → k < suc n → (f : ℕ → Hom X Y) → sum_of n (λ j. f (skip k j)) ⊕ f k ≡ sum_of (suc n) f
+  pub sum_of-skip : {X Y : Rep q Q} (n k : ℕ) → k < suc n → (f : ℕ → Hom X Y) → sum_of n (λ j. f (skip k j)) ⊕ f k ≡ sum_of (suc n) f
   sum_of-skip {X} {Y} zero k b f =
       let e : k ≡ 0 = omega (arith, b) in
       ap₂ (λ x y. x ⊕ y) (sum_of-none (λ j. f (skip k j)) ∙ sym (sum_of-none f)) (ap f e) ∙ sym (sum_of-suc 0 f)
@@ -75,7 +75,7 @@ module _ {q : Gf} {Q : Quiver} where
   ]
 
   -- a sum of a family is the sum of the others and of one member
-  pub without : (n : ℕ) (Y : ℕ → Rep q Q) (k : ℕ) → k < suc n → TwoParts (sum_family (suc n) Y) (sum_family n (λ j. Y (skip k j))) (Y k)
+  unfoldable pub without : (n : ℕ) (Y : ℕ → Rep q Q) (k : ℕ) → k < suc n → TwoParts (sum_family (suc n) Y) (sum_family n (λ j. Y (skip k j))) (Y k)
   without n Y k b = record {
     in_first = from_family n others (λ j. family_in (suc n) Y (skip k j));
     out_first = into_family n others (λ j. family_out (suc n) Y (skip k j));

@@ -5,5 +5,6 @@ pub mod Ideal
 pub mod Isomorphic
 pub mod Local
 pub mod MatrixAlgebra
+pub mod RadicalOfSum
 pub mod Residue
 pub mod Splitting

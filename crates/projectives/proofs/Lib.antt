@@ -1,3 +1,4 @@
+pub mod BasisModulo
 pub mod CanonicalCovers
 pub mod CanonicalPlaces
 pub mod CanonicalRows
@@ -6,6 +7,7 @@ pub mod CoverUnique
 pub mod Covers
 pub mod DualYoneda
 pub mod Extending
+pub mod Extensions
 pub mod Families
 pub mod Generators
 pub mod KernelCovers

@@ -1,7 +1,9 @@
+pub mod BasisModulo
 pub mod Canonical
 pub mod CanonicalCover
 pub mod Components
 pub mod Covers
+pub mod Extensions
 pub mod Families
 pub mod Generators
 pub mod HomRows

@@ -3,6 +3,7 @@
 #![tactic(auto)]
 
 pub mod examples;
+pub mod extension_bases;
 pub mod injectivity;
 pub mod minimal_covers;
 pub mod minimal_resolutions;

@@ -1,0 +1,83 @@
+-- What every report obeys that is written or read: the numbers and shapes of the format.
+use Rattle.std.specs.Prelude.{ℕ, ⊤, ◌≡◌, ◌≢◌, ◌<◌, ◌≤◌, ◌^◌, List, [], ◌∷◌, length, All, AllPairs}
+use Rattle.quiver_paths.specs.declared.Path.{Path}
+use Rattle.quiver_paths.specs.Path.{IsPath, path_length}
+use Rattle.alg_table.specs.declared.Header.{Header}
+use Rattle.alg_table.specs.declared.rules.Rule.{Rule}
+use Rattle.alg_table.specs.declared.rules.Step.{Step}
+use Rattle.alg_table.specs.Allowed.{IsAllowed}
+use Rattle.alg_table.specs.Words.{IsShortPath}
+use Rattle.alg_table.specs.Rules.{AreElementTerms}
+use Rattle.alg_table.specs.Derivations.{IsNumber, AreSteps}
+use Rattle.alg_table.specs.BasisClauses.{HasFactor}
+use Rattle.claim_types.specs.declared.claims.Claim.{Claim}
+use Rattle.claim_types.specs.declared.claims.Claim.TheVariants.{Basis}
+use Rattle.claim_types.specs.declared.claims.Record.{Record}
+use Rattle.claim_types.specs.declared.reports.Why.TheVariants.{NotBuilt, PathLimit}
+use Rattle.claim_types.specs.declared.reports.End.{End}
+use Rattle.claim_types.specs.declared.reports.End.TheVariants.{Done, Refused}
+use Rattle.claim_types.specs.declared.reports.Report.{Report}
+use Rattle.claim_types.specs.Limits.{path_limit, length_limit, IsLine}
+
+-- words: distinct paths shorter than the bound
+pub record AreWords (h : Header) (words : List Path) : Type 0 where
+  pub few : length words ≤ path_limit
+  pub short : All (IsShortPath h) words
+  pub different : AllPairs (λ (v w : Path). v ≢ w) words
+
+-- Steps name earlier steps, written relations and arrows of the quiver, with factors from 1 to q − 1. Their numbers are below 2^32.
+pub record AreWrittenSteps (h : Header) (steps : List Step) : Type 0 where
+  pub few : length steps < 2 ^ 32
+  pub named : AreSteps h steps
+  pub factors : All (HasFactor h) steps
+
+-- A rule behind so many steps: its paths are paths of the quiver of length at most 64, those of the tail shorter than the bound and
+-- descending, and it names one of the steps. The tip may be trivial, and the tail need not be parallel to it.
+pub record IsWrittenRule (h : Header) (steps : ℕ) (rule : Rule) : Type 0 where
+  pub tip : IsPath h.quiver rule.tip
+  pub tip_limit : path_length rule.tip ≤ length_limit
+  pub tail : AreElementTerms h rule.tail.terms
+  pub named : IsNumber steps rule.step
+
+pub record AreWrittenRules (h : Header) (steps : ℕ) (rules : List Rule) : Type 0 where
+  pub few : length rules < 2 ^ 32
+  pub each : All (IsWrittenRule h steps) rules
+
+pub record IsBasisBlock (h : Header) (words : List Path) (steps : List Step) (rules : List Rule) : Type 0 where
+  pub are_words : AreWords h words
+  pub are_steps : AreWrittenSteps h steps
+  pub are_rules : AreWrittenRules h (length steps) rules
+
+-- the claim may be the first of a report
+abbrev pub IsFirstClaim : Header → Claim → Type 0
+IsFirstClaim h (Basis words steps rules) = IsBasisBlock h words steps rules
+
+pub record IsFirstRecord (h : Header) (r : Record) : Type 0 where
+  pub line : IsLine r.line
+  pub claim : IsFirstClaim h r.claim
+
+-- claim 1 is the basis, and no claim follows it
+abbrev pub AreRecords : Header → List Record → Type 0
+AreRecords h [] = ⊤
+AreRecords h (r ∷ rest) = IsFirstRecord h r × (rest ≡ [])
+
+-- a report without a claim ends so
+abbrev pub IsEmptyEnd : End → Type 0
+IsEmptyEnd Done = ⊥
+IsEmptyEnd (Refused line NotBuilt) = ⊥
+IsEmptyEnd (Refused line (PathLimit count)) = IsLine line × (count < 2 ^ 64)
+
+-- a report with a claim ends so
+abbrev pub IsFullEnd : End → Type 0
+IsFullEnd Done = ⊤
+IsFullEnd (Refused line NotBuilt) = IsLine line
+IsFullEnd (Refused line (PathLimit count)) = ⊥
+
+abbrev pub IsEnd : List Record → End → Type 0
+IsEnd [] e = IsEmptyEnd e
+IsEnd (r ∷ rest) e = IsFullEnd e
+
+pub record IsReport (report : Report) : Type 0 where
+  pub header : IsAllowed report.header
+  pub records : AreRecords report.header report.records
+  pub ends : IsEnd report.records report.end

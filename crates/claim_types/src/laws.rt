@@ -1,0 +1,24 @@
+//! What holds of claims and verdicts. The functions do nothing: their contracts are laws.
+ghost use Rattle.std.specs.Prelude.{◌≡◌, ◌≤◌, ℕ};
+ghost use Rattle.claim_types.specs.declared.reports.Report.{Report};
+ghost use Rattle.claim_types.specs.declared.verdicts.Verdict.{Verdict};
+ghost use Rattle.claim_types.specs.Lawful.{IsReport};
+ghost use Rattle.claim_types.specs.Numbered.{Holds, ConditionsHold};
+ghost use Rattle.claim_types.specs.Verdicts.{IsVerdict};
+ghost use Rattle.script_lang.specs.declared.types.Script.{Script};
+ghost use Rattle.claim_types.specs.Answers.{AnswersScript, BeginsToAnswer};
+
+/// Where the conditions hold of claims 1 to k of a report, claim k holds.
+pub fn conditions_suffice()
+    ensures { (report : Report) (k : ℕ) → IsReport report → ((j : ℕ) → j ≤ k → ConditionsHold report j) → Holds report k }
+{}
+
+/// A report has at most one verdict.
+pub fn one_verdict()
+    ensures { (report : Report) (v w : Verdict) → IsVerdict report v → IsVerdict report w → v ≡ w }
+{}
+
+/// The records of a report that answers a script have begun to answer it.
+pub fn answers_begin()
+    ensures { (script : Script) (report : Report) → AnswersScript script report → BeginsToAnswer script report.records }
+{}
