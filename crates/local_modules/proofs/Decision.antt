@@ -21,7 +21,8 @@ use Rattle.local_modules.proofs.ResidueRing.{class_of, lift_of, class-lift, clas
 use Rattle.local_modules.proofs.FrobeniusFields.{power_of_unit, reduced_ring}
 use Rattle.local_modules.proofs.FixedElements.{shifts_not_all_units, fixed_or_scalars, root_or_injective}
 use Rattle.local_modules.proofs.Commutative.{commutative_or_not}
-use Rattle.local_modules.proofs.ResidueConditions.{commutes_residue, frobenius_modulo, unit_modulo}
+use Rattle.local_modules.proofs.ResidueConditions.{frobenius_modulo}
+use Rattle.local_modules.proofs.ResidueRanks.{listed_of_units}
 use Rattle.local_modules.proofs.NilIdeals.{nil_right_ideal}
 use Rattle.local_modules.proofs.IdealGrowth.{enlarged, enlarged-has, enlarged-has_element, enlarged-two_sided, enlarged_power}
 use Rattle.local_modules.proofs.IdealPowers.{least_power, two_sided_same, power_same}
@@ -179,36 +180,33 @@ module _ {q : Gf} (A : Algebra q) where
       ]
 
     -- The other case: all elements are tried.
-    Odd : Element R → Type 0
-    Odd y = (y ≢ zeros q 1 C.size) × (IsNilpotentIn A (lift_of A J.ideal C y) ⊎ IsMixed A (lift_of A J.ideal C y))
+    IsNoUnit : Element R → Type 0
+    IsNoUnit y = (y ≢ zeros q 1 C.size) × (IsNilpotentIn A (lift_of A J.ideal C y) ⊎ IsMixed A (lift_of A J.ideal C y))
 
-    Even : Element R → Type 0
-    Even y = (y ≡ zeros q 1 C.size) ⊎ IsUnitIn A (lift_of A J.ideal C y)
+    IsZeroOrUnit : Element R → Type 0
+    IsZeroOrUnit y = (y ≡ zeros q 1 C.size) ⊎ IsUnitIn A (lift_of A J.ideal C y)
 
-    odd_or_even : (y : Element R) → Odd y ⊎ Even y
-    unfolding Odd Even
-    odd_or_even y = elim (equal_or_not y (zeros q 1 C.size)) [
+    unit_or_not : (y : Element R) → IsNoUnit y ⊎ IsZeroOrUnit y
+    unfolding IsNoUnit IsZeroOrUnit
+    unit_or_not y = elim (equal_or_not y (zeros q 1 C.size)) [
       | inl z ↦ inr (inl z)
       | inr n ↦ elim (classify A (lift_of A J.ideal C y)) [ inl i ↦ inr (inr i) | inr m ↦ inl (n, m) ]
     ]
 
-    odd_case : (y : Element R) → Odd y → HasMixed ⊎ Larger
-    unfolding Odd
-    odd_case y o = elim o.1 [ inl p ↦ grow (lift_of A J.ideal C y) p (lift_not_member y o.0) | inr m ↦ inl (lift_of A J.ideal C y, m) ]
+    no_unit_case : (y : Element R) → IsNoUnit y → HasMixed ⊎ Larger
+    unfolding IsNoUnit
+    no_unit_case y o = elim o.1 [ inl p ↦ grow (lift_of A J.ideal C y) p (lift_not_member y o.0) | inr m ↦ inl (lift_of A J.ideal C y, m) ]
 
     other_case : (((x y : Element R) → R.product x y ≡ R.product y x) → ⊥) → HasMixed ⊎ Larger ⊎ LocalCertificate A
-    unfolding Odd Even
-    other_case n = elim (search_rows C.size Odd Even odd_or_even) [
-      | inl s ↦ elim (odd_case s.0 s.1) [ inl m ↦ inl m | inr l ↦ inr (inl l) ]
-      | inr all ↦ inr (inr (certificate (inr (record {
-        not_commutative = λ c. n (commutes_residue A J.ideal S c);
-        inverses = λ x m. unit_modulo A J.ideal S x (subst (IsUnitIn R) (class-lift A J.ideal C (class_of A J.ideal C x)) (class_unit A J.ideal S (lift_of A J.ideal C (class_of A J.ideal C x)) (even x m (all (class_of A J.ideal C x)))));
-      }))))
+    unfolding IsNoUnit IsZeroOrUnit
+    other_case n = elim (search_rows C.size IsNoUnit IsZeroOrUnit unit_or_not) [
+      | inl s ↦ elim (no_unit_case s.0 s.1) [ inl m ↦ inl m | inr l ↦ inr (inl l) ]
+      | inr all ↦ inr (inr (certificate (inr (listed_of_units A J.ideal S n (λ y. unit_class y (all y))))))
     ]
       where
-        even : (x : Element A) → (IsInSpan J.ideal x → ⊥) → Even (class_of A J.ideal C x) → IsUnitIn A (lift_of A J.ideal C (class_of A J.ideal C x))
-        even x m (inl z) = absurd (m (member_of_class A J.ideal C x z))
-        even x m (inr i) = i
+        unit_class : (y : Element R) → IsZeroOrUnit y → (y ≡ zeros q 1 C.size) ⊎ IsUnitIn R y
+        unit_class y (inl z) = inl z
+        unit_class y (inr i) = inr (subst (IsUnitIn R) (class-lift A J.ideal C y) (class_unit A J.ideal S (lift_of A J.ideal C y) i))
 
     pub step : HasMixed ⊎ Larger ⊎ LocalCertificate A
     step = elim (commutative_or_not R) [ inl c ↦ commutative_case c | inr n ↦ other_case (λ c. n.2 (c n.0 n.1)) ]

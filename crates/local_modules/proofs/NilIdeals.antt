@@ -2,7 +2,7 @@
 -- neither invertible nor nilpotent.
 use Rattle.std.proofs.Common.{ℕ, zero, suc, ◌≡◌, ◌≢◌, ◌⊎◌, inl, inr, sym, ap, ◌∙◌, subst}
 use Rattle.linear_algebra.specs.Field.{Gf}
-use Rattle.linear_algebra.specs.Matrix.{Mat, zeros, ◌·◌}
+use Rattle.linear_algebra.specs.Matrix.{Mat, Row, Column, zeros, one, ◌·◌}
 use Rattle.linear_algebra.specs.Parts.{row, unit}
 use Rattle.linear_algebra.specs.Rank.{IsInSpan}
 use Rattle.linear_algebra.specs.Powers.{mat_power}
@@ -16,6 +16,14 @@ use Rattle.linear_algebra.proofs.NilOrFixed.{nil_or_fixed}
 use Rattle.linear_algebra.proofs.Solving.{zeros_not_one}
 use Rattle.local_modules.specs.Algebra.{Algebra, Element, product_in, IsNilpotentIn, IsMixed}
 use Rattle.local_modules.proofs.AlgebraLaws.{right_matrix, right_matrix-product, right_matrix-unit, right_matrix-sum, right_matrix-multiple, right_matrix-power, right_matrix-zeros, right_matrix_injective, by_left_linear, unit_first, nilpotent_no_unit}
+
+-- A matrix that fixes a row that is not zero has no power that is zero.
+pub fixed_row_not_nilpotent : {q : Gf} {n : ℕ} (a : Row q n) (u : Column q n) → a · u ≡ one q 1 → (r : Mat q n n) → a · r ≡ a → (e : ℕ) → mat_power r e ≡ zeros q n n → ⊥
+fixed_row_not_nilpotent {q} {n} a u nonzero r fixes e z = zeros_not_one q (sym (zeros_mul u) ∙ ap (λ z. z · u) (sym (sym (stays e) ∙ ap (λ m. a · m) z ∙ mul_zeros a)) ∙ nonzero)
+  where
+    stays : (k : ℕ) → a · mat_power r k ≡ a
+    stays zero = ap (λ z. a · z) (mat_power-zero r) ∙ mul_one_mat a
+    stays (suc k) = ap (λ z. a · z) (mat_power-suc r k) ∙ sym (mul_assoc_mat a r (mat_power r k)) ∙ ap (λ z. z · mat_power r k) fixes ∙ stays k
 
 module _ {q : Gf} (A : Algebra q) where
   pub right_matrix_linear : IsLinear (λ (y : Element A). right_matrix A y)
@@ -57,22 +65,11 @@ module _ {q : Gf} (A : Algebra q) where
 
     -- an element that fixes a row is not nilpotent
     fixed_not_nilpotent : (f : HasFixedRow A.size members) → IsNilpotentIn A (A.product x (combine A.size f.in_family.coefficients (unit q A.size))) → ⊥
-    fixed_not_nilpotent f n = zeros_not_one q (sym (zeros_mul f.functional) ∙ ap (λ z. z · f.functional) (sym none) ∙ f.nonzero)
+    fixed_not_nilpotent f n = fixed_row_not_nilpotent f.fixed f.functional f.nonzero (right_matrix A element) (ap (λ z. f.fixed · z) (sym (combination_is f.in_family.coefficients) ∙ f.in_family.is) ∙ f.is_fixed) n.exponent
+        (sym (right_matrix-power A element n.exponent) ∙ ap (right_matrix A) n.vanishes ∙ right_matrix-zeros A)
       where
         element : Element A
         element = A.product x (combine A.size f.in_family.coefficients (unit q A.size))
-
-        fixes : f.fixed · right_matrix A (A.product x (combine A.size f.in_family.coefficients (unit q A.size))) ≡ f.fixed
-        fixes = ap (λ z. f.fixed · z) (sym (combination_is f.in_family.coefficients) ∙ f.in_family.is) ∙ f.is_fixed
-
-        stays : (m : Mat q A.size A.size) → f.fixed · m ≡ f.fixed → (k : ℕ) → f.fixed · mat_power m k ≡ f.fixed
-        stays m e zero = ap (λ z. f.fixed · z) (mat_power-zero m) ∙ mul_one_mat f.fixed
-        stays m e (suc k) = ap (λ z. f.fixed · z) (mat_power-suc m k) ∙ sym (mul_assoc_mat f.fixed m (mat_power m k)) ∙ ap (λ z. z · mat_power m k) e ∙ stays m e k
-
-        none : f.fixed ≡ zeros q 1 A.size
-        none = sym (stays (right_matrix A (A.product x (combine A.size f.in_family.coefficients (unit q A.size)))) fixes n.exponent)
-            ∙ ap (λ z. f.fixed · z) (sym (right_matrix-power A (A.product x (combine A.size f.in_family.coefficients (unit q A.size))) n.exponent) ∙ ap (right_matrix A) n.vanishes ∙ right_matrix-zeros A)
-            ∙ mul_zeros f.fixed
 
     -- Nil right ideals.
     pub nil_right_ideal : A.unit ≢ zeros q 1 A.size → IsNilpotentIn A x

@@ -33,13 +33,13 @@ module _ {q : Gf} (A : Algebra q) {k : ℕ} (I : Mat q k A.size) (S : ResidueRin
 
   -- Frobenius fields.
   module _ (f : IsFrobeniusField A I) where
-    injective_residue : (x y : Element R) → power_in R x (order q) ≡ power_in R y (order q) → x ≡ y
+    pub injective_residue : (x y : Element R) → power_in R x (order q) ≡ power_in R y (order q) → x ≡ y
     injective_residue x y e =
         sym (class-lift A I C x)
         ∙ class_same A I C _ _ (f.injective (lift_of A I C x) (lift_of A I C y) (congruent_of_class A I C _ _ (power_of_lift x (order q) ∙ e ∙ sym (power_of_lift y (order q)))))
         ∙ class-lift A I C y
 
-    fixed_residue : (y : Element R) → power_in R y (order q) ≡ y → (c : ℕ) × (y ≡ c ⊙ class_of A I C f.fixed)
+    pub fixed_residue : (y : Element R) → power_in R y (order q) ≡ y → (c : ℕ) × (y ≡ c ⊙ class_of A I C f.fixed)
     fixed_residue y e = go (f.all_fixed (lift_of A I C y) (congruent_of_class A I C _ _ (power_of_lift y (order q) ∙ e ∙ sym (class-lift A I C y))))
       where
         go : (c : ℕ) × IsCongruent I (lift_of A I C y) (c ⊙ f.fixed) → (c : ℕ) × (y ≡ c ⊙ class_of A I C f.fixed)

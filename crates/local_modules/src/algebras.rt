@@ -4,11 +4,12 @@
 ghost use Rattle.std.specs.Prelude.{◌≡◌, ◌≢◌, ◌<◌, ◌≤◌, ◌+◌, ◌*◌, ◌⊎◌, ℕ};
 ghost use Rattle.linear_algebra.specs.Field.{Gf, order};
 ghost use Rattle.linear_algebra.specs.Matrix.{Mat, zeros, one, ◌⊞◌, ◌⊟◌, ◌⊙◌, ◌·◌};
+ghost use Rattle.linear_algebra.specs.Parts.{row, unit};
 ghost use Rattle.linear_algebra.specs.Rank.{IsInSpan, RankFactorisation};
 ghost use Rattle.linear_algebra.specs.LinearMaps.{matrix_of};
 ghost use Rattle.linear_algebra.specs.RowForm.{IsRowReduced};
 ghost use Rattle.local_modules.specs.Algebra.{Algebra, Element, power_in, product_in, IsUnitIn, IsNilpotentIn, IsMixed};
-ghost use Rattle.local_modules.specs.Ideal.{IsTwoSided, PowerVanishes, IsLeastPower, IsGeneratedWith};
+ghost use Rattle.local_modules.specs.Ideal.{IsTwoSided, PowerVanishes, IsLeastPower, IsGeneratedWith, IsFrobeniusField, IsListedDivisionRing};
 ghost use Rattle.local_modules.specs.Residue.{ResidueRing};
 
 /// A one-sided inverse in a finite-dimensional algebra is two-sided; 1 − x is invertible where x is nilpotent; and each element is invertible,
@@ -86,4 +87,27 @@ pub fn frobenius_fields()
         → ((x y : Element A) → power_in A x (order q) ≡ power_in A y (order q) → x ≡ y)
         → (v : Element A) → v ≢ zeros q 1 A.size → ((y : Element A) → power_in A y (order q) ≡ y → (c : ℕ) × (y ≡ c ⊙ v))
         → (y : Element A) → (y ≡ zeros q 1 A.size) ⊎ IsUnitIn A y }
+{}
+
+/// Rows span a two-sided ideal where their products with the unit rows are in the span, on both sides. (Chapter I, 1.)
+pub fn two_sided_by_basis()
+    ensures { (q : Gf) (A : Algebra q) (k : ℕ) (I : Mat q k A.size) → ((i j : ℕ) → i < A.size → j < k → IsInSpan I (A.product (unit q A.size i) (row j I)))
+        → ((i j : ℕ) → i < A.size → j < k → IsInSpan I (A.product (row j I) (unit q A.size i))) → IsTwoSided A I }
+{}
+
+/// The two forms of a residue ring in coordinates. The first is that it is commutative, the rank of the matrix of taking q-th powers is its dimension,
+/// and the rank of that matrix less the unit matrix is its dimension less 1; the second is that it is not commutative, and each element is zero or
+/// invertible. (Chapter I, 1.)
+pub fn forms_of_the_residue_ring()
+    ensures commutative { (q : Gf) (A : Algebra q) (k : ℕ) (I : Mat q k A.size) (R : ResidueRing A I) → IsFrobeniusField A I → (x y : Element R.ring) → R.ring.product x y ≡ R.ring.product y x }
+    ensures injective { (q : Gf) (A : Algebra q) (k : ℕ) (I : Mat q k A.size) (R : ResidueRing A I) → IsFrobeniusField A I
+        → (f : RankFactorisation (matrix_of (λ (x : Element R.ring). power_in R.ring x (order q)))) → f.size ≡ R.ring.size }
+    ensures line { (q : Gf) (A : Algebra q) (k : ℕ) (I : Mat q k A.size) (R : ResidueRing A I) → IsFrobeniusField A I
+        → (g : RankFactorisation (matrix_of (λ (x : Element R.ring). power_in R.ring x (order q)) ⊟ one q R.ring.size)) → 1 + g.size ≡ R.ring.size }
+    ensures frobenius { (q : Gf) (A : Algebra q) (k : ℕ) (I : Mat q k A.size) (R : ResidueRing A I) → ((x y : Element R.ring) → R.ring.product x y ≡ R.ring.product y x)
+        → (f : RankFactorisation (matrix_of (λ (x : Element R.ring). power_in R.ring x (order q)))) → f.size ≡ R.ring.size
+        → (g : RankFactorisation (matrix_of (λ (x : Element R.ring). power_in R.ring x (order q)) ⊟ one q R.ring.size)) → 1 + g.size ≡ R.ring.size → IsFrobeniusField A I }
+    ensures units { (q : Gf) (A : Algebra q) (k : ℕ) (I : Mat q k A.size) (R : ResidueRing A I) → IsListedDivisionRing A I → (y : Element R.ring) → (y ≡ zeros q 1 R.ring.size) ⊎ IsUnitIn R.ring y }
+    ensures listed { (q : Gf) (A : Algebra q) (k : ℕ) (I : Mat q k A.size) (R : ResidueRing A I) → (((x y : Element R.ring) → R.ring.product x y ≡ R.ring.product y x) → ⊥)
+        → ((y : Element R.ring) → (y ≡ zeros q 1 R.ring.size) ⊎ IsUnitIn R.ring y) → IsListedDivisionRing A I }
 {}

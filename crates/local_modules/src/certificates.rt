@@ -11,8 +11,8 @@ ghost use Rattle.representations.specs.Rep.{Rep};
 ghost use Rattle.representations.specs.Hom.{Hom};
 ghost use Rattle.representations.specs.HomSpace.{HomBasis};
 ghost use Rattle.representations.specs.Module.{IsIso, IsNilpotent, IsZero};
-ghost use Rattle.local_modules.specs.Algebra.{Algebra, Element, IsUnitIn, IsNilpotentIn};
-ghost use Rattle.local_modules.specs.Ideal.{IsTwoSided, PowerVanishes};
+ghost use Rattle.local_modules.specs.Algebra.{Algebra, Element, product_in, IsUnitIn, IsNilpotentIn, IsMixed};
+ghost use Rattle.local_modules.specs.Ideal.{IsTwoSided, PowerVanishes, IsLeastPower};
 ghost use Rattle.local_modules.specs.MatrixAlgebra.{MatrixAlgebra, algebra_of, endomorphism_algebra, IsCombinationOf, IsClosedSpan};
 ghost use Rattle.local_modules.specs.Certificate.{LocalCertificate};
 ghost use Rattle.local_modules.specs.Local.{IsLocal};
@@ -30,7 +30,8 @@ pub fn matrix_algebras()
 {}
 
 /// All products of s members of an ideal of a matrix algebra are zero exactly where all products of s of its rows are zero at each vertex. If they are
-/// zero for some s, they are zero for each number that is at least the dimension at each vertex. (Chapter I, 1.)
+/// zero for some s, they are zero for each number that is at least the dimension at each vertex; so the least number from 1 on is at most the largest
+/// dimension, or 1. (Chapter I, 1.)
 pub fn powers_at_vertices()
     ensures at_vertices { (q : Gf) (Q : Quiver) (X : Rep q Q) (M : MatrixAlgebra X) (k : ℕ) (I : Mat q k M.size) (s : ℕ) → PowerVanishes (algebra_of M) I s
         → (v : ℕ) (w : ℕ → ℕ) → ((i : ℕ) → i < s → w i < k) → ordered_product (λ i. (M.element (row (w i) I)).at v) s ≡ zeros q (X.dim v) (X.dim v) }
@@ -39,6 +40,17 @@ pub fn powers_at_vertices()
         → PowerVanishes (algebra_of M) I s }
     ensures bound { (q : Gf) (Q : Quiver) (X : Rep q Q) (M : MatrixAlgebra X) (k : ℕ) (I : Mat q k M.size) → IsTwoSided (algebra_of M) I
         → (s : ℕ) → PowerVanishes (algebra_of M) I s → (d : ℕ) → ((v : ℕ) → X.dim v ≤ d) → PowerVanishes (algebra_of M) I d }
+    ensures least_bound { (q : Gf) (Q : Quiver) (X : Rep q Q) (M : MatrixAlgebra X) (k : ℕ) (I : Mat q k M.size) → IsTwoSided (algebra_of M) I
+        → (s : ℕ) → IsLeastPower (algebra_of M) I s → (d : ℕ) → 1 ≤ d → ((v : ℕ) → X.dim v ≤ d) → s ≤ d }
+{}
+
+/// For a nilpotent member x of a matrix algebra on a representation that is not zero, either all products of d members of the right ideal of x are zero,
+/// d being at least the dimension at each vertex, or that right ideal has a member that is neither invertible nor nilpotent. (Levitzki's theorem;
+/// chapter I, 1.)
+pub fn nil_right_ideals_at_vertices()
+    ensures { (q : Gf) (Q : Quiver) (X : Rep q Q) (M : MatrixAlgebra X) (x : Row q M.size) (v : ℕ) → X.dim v ≢ zero → IsNilpotentIn (algebra_of M) x
+        → (d : ℕ) → ((v : ℕ) → X.dim v ≤ d)
+        → ((y : ℕ → Row q M.size) → product_in (algebra_of M) (λ i. M.composite x (y i)) d ≡ zeros q 1 M.size) ⊎ ((y : Row q M.size) × IsMixed (algebra_of M) (M.composite x y)) }
 {}
 
 /// A module that is not zero is local exactly where its endomorphism algebra has a certificate. (Chapter I, 4.)

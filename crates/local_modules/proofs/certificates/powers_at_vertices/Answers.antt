@@ -1,4 +1,4 @@
-use Rattle.local_modules.proofs.VertexPowers.{products_of_power, power_of_products, power_bound}
+use Rattle.local_modules.proofs.VertexPowers.{products_of_power, power_of_products, power_bound, least_power_bound}
 use Rattle.local_modules.proofs.certificates.powers_at_vertices.Goals as goal
 
 pub returns-clause-at_vertices : goal.returns-clause-at_vertices
@@ -9,3 +9,6 @@ returns-clause-from_vertices c = λ q Q X M k I. power_of_products M I
 
 pub returns-clause-bound : goal.returns-clause-bound
 returns-clause-bound c = λ q Q X M k I t s p. power_bound M I t s p
+
+pub returns-clause-least_bound : goal.returns-clause-least_bound
+returns-clause-least_bound c = λ q Q X M k I t s l. least_power_bound M I t s l.vanishes s l
