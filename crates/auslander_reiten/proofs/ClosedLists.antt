@@ -33,7 +33,7 @@ use Rattle.local_modules.specs.RadicalOfSum.{ArePairwiseApart, part, IsRadical, 
 use Rattle.local_modules.proofs.LocalRings.{iso_identity, iso_compose, both_iso, zero_no_iso}
 use Rattle.local_modules.proofs.Comparing.{isomorphic_or_apart, isomorphic_not_apart}
 use Rattle.local_modules.proofs.RadicalOfSum.{radical_exponent, radical_power}
-use Rattle.auslander_reiten.specs.AlmostSplit.{Lifts}
+use Rattle.auslander_reiten.specs.AlmostSplit.{Lifts, IsAlmostSplit}
 use Rattle.auslander_reiten.specs.ClosedList.{IsRightAlmostSplit, IsListed, ListedSource, IsClosedList}
 
 -- ---- a module that is not zero at a vertex has a homomorphism to the injective module there that is not zero
@@ -227,3 +227,7 @@ module _ {q : Gf} {A : BoundQuiver} (T : TwoSided q A) (n : ℕ) (Y : ℕ → Re
       iso = iso_compose a.same.iso.inverse b.same.forth (record { inverse = a.same.forth; right = a.same.iso.left; left = a.same.iso.right }) b.same.iso;
     }) (C.apart a.member b.member a.below b.below d))
   ]
+
+-- The right half of an almost split sequence.
+pub right_half : {q : Gf} {A : BoundQuiver} {L E M : Rep q A.quiver} (f : Hom L E) (g : Hom E M) → IsAlmostSplit A f g → IsRightAlmostSplit A g
+right_half f g s = record { not_split = s.not_split; lifts = s.lifts }

@@ -1,5 +1,5 @@
 -- The radical of the endomorphism ring of a sum of local modules that are pairwise apart is an ideal, and a power of it is zero.
-use Rattle.std.proofs.Common.{ℕ, zero, suc, ◌+◌, ◌-◌, ◌<◌, ◌≡◌, ◌⊎◌, inl, inr, sym, ap, ap₂, ◌∙◌, arith, subst}
+use Rattle.std.proofs.Common.{ℕ, zero, suc, ◌≢◌, ◌+◌, ◌-◌, ◌<◌, ◌≡◌, ◌⊎◌, inl, inr, sym, ap, ap₂, ◌∙◌, arith, subst}
 use mathlib.Core.Path.{fun_ext}
 use Rattle.std.proofs.lemmas.Bool.{cases_lt, cases_eq}
 use Rattle.linear_algebra.specs.Field.{Gf}
@@ -28,8 +28,9 @@ use Rattle.projectives.specs.Families.{family_in}
 use Rattle.projectives.specs.Components.{family_out}
 use Rattle.projectives.proofs.Components.{in-out, whole}
 use Rattle.local_modules.specs.Local.{IsLocal}
+use Rattle.local_modules.specs.Isomorphic.{Isomorphic}
 use Rattle.local_modules.specs.RadicalOfSum.{ArePairwiseApart, part, IsRadical, composite_of}
-use Rattle.local_modules.proofs.LocalRings.{never_both, nilpotent_sum, nilpotent_multiple, nilpotent_after, iso_identity, iso_minus_nilpotent}
+use Rattle.local_modules.proofs.LocalRings.{never_both, nilpotent_sum, nilpotent_multiple, nilpotent_after, nilpotent_before, iso_identity, iso_minus_nilpotent, both_iso}
 use Rattle.local_modules.proofs.Comparing.{zero_nilpotent, nilpotent_sum_of, hom-zeros}
 use Rattle.local_modules.proofs.ApartSums.{diagonal_iso}
 use Rattle.local_modules.proofs.DecidedSpaces.{Spanning, spanning_rows}
@@ -90,6 +91,15 @@ module _ {q : Gf} {Q : Quiver} (n : ℕ) (Y : ℕ → Rep q Q) where
         term j m = elim (cases_eq k j) [
           | inl e ↦ subst (λ i. IsNilpotent (part n Y x k i ≫ part n Y y i k)) e (nilpotent_after (L k l) (part n Y x k k) (part n Y y k k) (r k l))
           | inr d ↦ apart k j l m d (part n Y x k j) (part n Y y j k)
+        ]
+
+    pub radical_before : (y x : Hom S S) → IsRadical n Y x → IsRadical n Y (y ≫ x)
+    radical_before y x r k l = subst IsNilpotent (sym (part_composite y x k k)) (nilpotent_sum_of (L k l) n (λ j. part n Y y k j ≫ part n Y x j k) term)
+      where
+        term : (j : ℕ) → j < n → IsNilpotent (part n Y y k j ≫ part n Y x j k)
+        term j m = elim (cases_eq k j) [
+          | inl e ↦ subst (λ i. IsNilpotent (part n Y y k i ≫ part n Y x i k)) e (nilpotent_before (L k l) (part n Y y k k) (part n Y x k k) (r k l))
+          | inr d ↦ apart k j l m d (part n Y y k j) (part n Y x j k)
         ]
 
     decide_radical : (x : Hom S S) → IsRadical n Y x ⊎ (IsRadical n Y x → ⊥)
@@ -216,3 +226,13 @@ module _ {q : Gf} {Q : Quiver} (n : ℕ) (Y : ℕ → Rep q Q) where
           ap (λ m. (composite_of h m).at v) (sym e) ∙ vanish_more v k h (λ i b. r i (omega (arith, b, e))) ∙ sym (zero_hom-at S S v)
       | inr past ↦ subst (λ d. (a b : Mat q d d) → a ≡ b) (sym (S.past v past)) no_rows ((composite_of h (total Q.vertices S.dim)).at v) ((zero_hom S S).at v)
     ])
+
+    pub radical_vanishes : (m : ℕ) × ((h : ℕ → Hom S S) → ((i : ℕ) → i < m → IsRadical n Y (h i)) → composite_of h m ≡ zero_hom S S)
+    radical_vanishes = (radical_exponent, radical_power)
+
+-- Local modules are pairwise apart where no two of them are isomorphic.
+pub pairwise_apart : {q : Gf} {Q : Quiver} (n : ℕ) (Y : ℕ → Rep q Q) → ((k : ℕ) → k < n → IsLocal (Y k)) → ((k l : ℕ) → k < n → l < n → k ≢ l → Isomorphic (Y k) (Y l) → ⊥) → ArePairwiseApart n Y
+pairwise_apart n Y L other k l a b d f g = elim ((L k a).decides (f ≫ g)) [
+  | inl i ↦ absurd (other k l a b d (record { forth = f; iso = (both_iso (L k a) (L l b) f g i).0 }))
+  | inr z ↦ z
+]

@@ -5,3 +5,4 @@
 pub mod algebras;
 pub mod certificates;
 pub mod locality;
+pub mod sums;
