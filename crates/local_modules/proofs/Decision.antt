@@ -69,20 +69,20 @@ module _ {q : Gf} (A : Algebra q) where
 
   module _ (nonzero : A.unit ≢ zeros q 1 A.size) (J : NilpotentIdeal A) where
     -- A larger ideal.
-    abbrev Larger : Type 0
+    abbrev pub Larger : Type 0
     Larger = (K : NilpotentIdeal A) × (J.count < K.count)
 
-    abbrev S : ResidueRing A J.ideal
+    abbrev pub S : ResidueRing A J.ideal
     S = residue A J.ideal J.two_sided
 
-    abbrev C : Classes J.ideal
+    abbrev pub C : Classes J.ideal
     C = classes_of S
 
-    abbrev R : Algebra q
+    abbrev pub R : Algebra q
     R = S.ring
 
     -- A nilpotent element that is not in the ideal makes it larger, or gives an element of neither kind.
-    larger_by : (x : Element A) → (IsInSpan J.ideal x → ⊥) → ((y : ℕ → Element A) → product_in A (λ i. A.product x (y i)) A.size ≡ zeros q 1 A.size) → Larger
+    pub larger_by : (x : Element A) → (IsInSpan J.ideal x → ⊥) → ((y : ℕ → Element A) → product_in A (λ i. A.product x (y i)) A.size ≡ zeros q 1 A.size) → Larger
     larger_by x n nil = go (reduced_form (enlarged A J.ideal J.two_sided x))
       where
         go : ReducedForm (enlarged A J.ideal J.two_sided x) → Larger
@@ -112,21 +112,21 @@ module _ {q : Gf} (A : Algebra q) where
                       (in_span_trans F.rows (enlarged A J.ideal J.two_sided x) x F.spans (enlarged-has_element A J.ideal J.two_sided x))))
                 ]
 
-    grow : (x : Element A) → IsNilpotentIn A x → (IsInSpan J.ideal x → ⊥) → HasMixed ⊎ Larger
+    pub grow : (x : Element A) → IsNilpotentIn A x → (IsInSpan J.ideal x → ⊥) → HasMixed ⊎ Larger
     grow x p n = elim (nil_right_ideal A x nonzero p) [
       | inl nil ↦ inr (larger_by x n nil)
       | inr m ↦ inl (A.product x m.0, m.1)
     ]
 
-    lift_not_member : (y : Element R) → y ≢ zeros q 1 C.size → IsInSpan J.ideal (lift_of A J.ideal C y) → ⊥
+    pub lift_not_member : (y : Element R) → y ≢ zeros q 1 C.size → IsInSpan J.ideal (lift_of A J.ideal C y) → ⊥
     lift_not_member y n s = n (sym (class-lift A J.ideal C y) ∙ class_of_member A J.ideal C (lift_of A J.ideal C y) s)
 
     -- The residue ring is not zero.
-    residue_nonzero : R.unit ≢ zeros q 1 C.size
+    pub residue_nonzero : R.unit ≢ zeros q 1 C.size
     residue_nonzero e = nilpotent_no_unit A nonzero A.unit (member_nilpotent A J.ideal J.power J.vanishes A.unit (member_of_class A J.ideal C A.unit (ring_unit A J.ideal S ∙ e)))
         (record { inverse = A.unit; right = A.unit_product A.unit; left = A.unit_product A.unit })
 
-    certificate : IsFrobeniusField A J.ideal ⊎ IsListedDivisionRing A J.ideal → LocalCertificate A
+    pub certificate : IsFrobeniusField A J.ideal ⊎ IsListedDivisionRing A J.ideal → LocalCertificate A
     certificate r = let s = least_power A J.ideal J.power J.vanishes in record {
       count = J.count;
       ideal = J.ideal;
@@ -140,21 +140,21 @@ module _ {q : Gf} (A : Algebra q) where
 
     -- The commutative case.
     module _ (commutes : (x y : Element R) → R.product x y ≡ R.product y x) where
-      root_case : (y : Element R) → y ≢ zeros q 1 C.size → power_in R y (order q) ≡ zeros q 1 C.size → HasMixed ⊎ Larger
+      pub root_case : (y : Element R) → y ≢ zeros q 1 C.size → power_in R y (order q) ≡ zeros q 1 C.size → HasMixed ⊎ Larger
       root_case y n e = grow (lift_of A J.ideal C y)
           (nilpotent_of_class A J.ideal S J.power J.vanishes (lift_of A J.ideal C y)
           (record { exponent = order q; vanishes = ap (λ z. power_in R z (order q)) (class-lift A J.ideal C y) ∙ e }))
           (lift_not_member y n)
 
       module _ (injective : (x y : Element R) → power_in R x (order q) ≡ power_in R y (order q) → x ≡ y) where
-        shifted : Element R → ℕ → Element A
+        unfoldable pub shifted : Element R → ℕ → Element A
         shifted y c = lift_of A J.ideal C y ⊟ c ⊙ A.unit
 
         class-shifted : (y : Element R) (c : ℕ) → class_of A J.ideal C (shifted y c) ≡ y ⊟ c ⊙ R.unit
         unfolding shifted
         class-shifted y c = class_difference A J.ideal C (lift_of A J.ideal C y) (c ⊙ A.unit) ∙ simp (class-lift A J.ideal C y, class_multiple A J.ideal C c A.unit, ring_unit A J.ideal S)
 
-        fixed_case : (y : Element R) → power_in R y (order q) ≡ y → ((c : ℕ) → c < order q → y ≢ c ⊙ R.unit) → HasMixed
+        pub fixed_case : (y : Element R) → power_in R y (order q) ≡ y → ((c : ℕ) → c < order q → y ≢ c ⊙ R.unit) → HasMixed
         fixed_case y e n = elim (search_or_all (order q) (λ c. IsMixed A (shifted y c)) (λ c. IsUnitIn A (shifted y c) ⊎ IsNilpotentIn A (shifted y c)) kinds) [
           | inl f ↦ (shifted y f.0, f.2)
           | inr k ↦ absurd (shifts_not_all_units R y (λ c l. unit c l (k c l)) residue_nonzero e)
@@ -167,23 +167,23 @@ module _ {q : Gf} (A : Algebra q) where
             unit c l (inl i) = subst (IsUnitIn R) (class-shifted y c) (class_unit A J.ideal S (shifted y c) i)
             unit c l (inr p) = absurd (n c l (sub_eq_zeros y (c ⊙ R.unit) (reduced_ring R injective (y ⊟ c ⊙ R.unit) (subst (IsNilpotentIn R) (class-shifted y c) (class_nilpotent A J.ideal S (shifted y c) p)))))
 
-        injective_case : HasMixed ⊎ LocalCertificate A
+        pub injective_case : HasMixed ⊎ LocalCertificate A
         injective_case = elim (fixed_or_scalars R) [
           | inl f ↦ inl (fixed_case f.0 f.1 f.2)
           | inr all ↦ inr (certificate (inl (frobenius_modulo A J.ideal S commutes injective R.unit residue_nonzero (power_of_unit R (order q)) all)))
         ]
 
-      commutative_case : HasMixed ⊎ Larger ⊎ LocalCertificate A
+      pub commutative_case : HasMixed ⊎ Larger ⊎ LocalCertificate A
       commutative_case = elim (root_or_injective R commutes) [
         | inl f ↦ elim (root_case f.0 f.1 f.2) [ inl m ↦ inl m | inr l ↦ inr (inl l) ]
         | inr i ↦ elim (injective_case i) [ inl m ↦ inl m | inr c ↦ inr (inr c) ]
       ]
 
     -- The other case: all elements are tried.
-    IsNoUnit : Element R → Type 0
+    unfoldable pub IsNoUnit : Element R → Type 0
     IsNoUnit y = (y ≢ zeros q 1 C.size) × (IsNilpotentIn A (lift_of A J.ideal C y) ⊎ IsMixed A (lift_of A J.ideal C y))
 
-    IsZeroOrUnit : Element R → Type 0
+    unfoldable pub IsZeroOrUnit : Element R → Type 0
     IsZeroOrUnit y = (y ≡ zeros q 1 C.size) ⊎ IsUnitIn A (lift_of A J.ideal C y)
 
     unit_or_not : (y : Element R) → IsNoUnit y ⊎ IsZeroOrUnit y
@@ -193,11 +193,11 @@ module _ {q : Gf} (A : Algebra q) where
       | inr n ↦ elim (classify A (lift_of A J.ideal C y)) [ inl i ↦ inr (inr i) | inr m ↦ inl (n, m) ]
     ]
 
-    no_unit_case : (y : Element R) → IsNoUnit y → HasMixed ⊎ Larger
+    pub no_unit_case : (y : Element R) → IsNoUnit y → HasMixed ⊎ Larger
     unfolding IsNoUnit
     no_unit_case y o = elim o.1 [ inl p ↦ grow (lift_of A J.ideal C y) p (lift_not_member y o.0) | inr m ↦ inl (lift_of A J.ideal C y, m) ]
 
-    other_case : (((x y : Element R) → R.product x y ≡ R.product y x) → ⊥) → HasMixed ⊎ Larger ⊎ LocalCertificate A
+    pub other_case : (((x y : Element R) → R.product x y ≡ R.product y x) → ⊥) → HasMixed ⊎ Larger ⊎ LocalCertificate A
     unfolding IsNoUnit IsZeroOrUnit
     other_case n = elim (search_rows C.size IsNoUnit IsZeroOrUnit unit_or_not) [
       | inl s ↦ elim (no_unit_case s.0 s.1) [ inl m ↦ inl m | inr l ↦ inr (inl l) ]

@@ -2,6 +2,7 @@ pub mod Algebra
 pub mod Certificate
 pub mod Decomposition
 pub mod Ideal
+pub mod ImageChain
 pub mod Isomorphic
 pub mod Local
 pub mod MatrixAlgebra

@@ -13,6 +13,7 @@ ghost use Rattle.representations.specs.HomSpace.{HomBasis};
 ghost use Rattle.representations.specs.Module.{IsIso, IsNilpotent, IsZero};
 ghost use Rattle.local_modules.specs.Algebra.{Algebra, Element, product_in, IsUnitIn, IsNilpotentIn, IsMixed};
 ghost use Rattle.local_modules.specs.Ideal.{IsTwoSided, PowerVanishes, IsLeastPower};
+ghost use Rattle.local_modules.specs.ImageChain.{IsImageChain};
 ghost use Rattle.local_modules.specs.MatrixAlgebra.{MatrixAlgebra, algebra_of, endomorphism_algebra, IsCombinationOf, IsClosedSpan};
 ghost use Rattle.local_modules.specs.Certificate.{LocalCertificate};
 ghost use Rattle.local_modules.specs.Local.{IsLocal};
@@ -29,15 +30,19 @@ pub fn matrix_algebras()
     ensures nilpotent_back { (q : Gf) (Q : Quiver) (X : Rep q Q) (M : MatrixAlgebra X) (x : Row q M.size) → IsNilpotent (M.element x) → IsNilpotentIn (algebra_of M) x }
 {}
 
-/// All products of s members of an ideal of a matrix algebra are zero exactly where all products of s of its rows are zero at each vertex. If they are
-/// zero for some s, they are zero for each number that is at least the dimension at each vertex; so the least number from 1 on is at most the largest
-/// dimension, or 1. (Chapter I, 1.)
+/// All products of s members of an ideal of a matrix algebra are zero exactly where all products of s of its rows are zero at each vertex, and exactly
+/// where the s-th images of all rows under them are zero at each vertex. If they are zero for some s, they are zero for each number that is at least the
+/// dimension at each vertex; so the least number from 1 on is at most the largest dimension, or 1. (Chapter I, 1.)
 pub fn powers_at_vertices()
     ensures at_vertices { (q : Gf) (Q : Quiver) (X : Rep q Q) (M : MatrixAlgebra X) (k : ℕ) (I : Mat q k M.size) (s : ℕ) → PowerVanishes (algebra_of M) I s
         → (v : ℕ) (w : ℕ → ℕ) → ((i : ℕ) → i < s → w i < k) → ordered_product (λ i. (M.element (row (w i) I)).at v) s ≡ zeros q (X.dim v) (X.dim v) }
     ensures from_vertices { (q : Gf) (Q : Quiver) (X : Rep q Q) (M : MatrixAlgebra X) (k : ℕ) (I : Mat q k M.size) (s : ℕ)
         → ((v : ℕ) (w : ℕ → ℕ) → ((i : ℕ) → i < s → w i < k) → ordered_product (λ i. (M.element (row (w i) I)).at v) s ≡ zeros q (X.dim v) (X.dim v))
         → PowerVanishes (algebra_of M) I s }
+    ensures images { (q : Gf) (Q : Quiver) (X : Rep q Q) (M : MatrixAlgebra X) (k : ℕ) (I : Mat q k M.size) (size : ℕ → ℕ → ℕ) (V : (v i : ℕ) → Mat q (size v i) (X.dim v))
+        → ((v : ℕ) → IsImageChain k (λ j. (M.element (row j I)).at v) (size v) (V v)) → (s : ℕ) → PowerVanishes (algebra_of M) I s → (v : ℕ) → V v s ≡ zeros q (size v s) (X.dim v) }
+    ensures from_images { (q : Gf) (Q : Quiver) (X : Rep q Q) (M : MatrixAlgebra X) (k : ℕ) (I : Mat q k M.size) (size : ℕ → ℕ → ℕ) (V : (v i : ℕ) → Mat q (size v i) (X.dim v))
+        → ((v : ℕ) → IsImageChain k (λ j. (M.element (row j I)).at v) (size v) (V v)) → (s : ℕ) → ((v : ℕ) → V v s ≡ zeros q (size v s) (X.dim v)) → PowerVanishes (algebra_of M) I s }
     ensures bound { (q : Gf) (Q : Quiver) (X : Rep q Q) (M : MatrixAlgebra X) (k : ℕ) (I : Mat q k M.size) → IsTwoSided (algebra_of M) I
         → (s : ℕ) → PowerVanishes (algebra_of M) I s → (d : ℕ) → ((v : ℕ) → X.dim v ≤ d) → PowerVanishes (algebra_of M) I d }
     ensures least_bound { (q : Gf) (Q : Quiver) (X : Rep q Q) (M : MatrixAlgebra X) (k : ℕ) (I : Mat q k M.size) → IsTwoSided (algebra_of M) I
@@ -60,11 +65,12 @@ pub fn local_exactly_by_certificate()
     ensures algebra { (q : Gf) (A : Algebra q) → LocalCertificate A → (x : Element A) → IsUnitIn A x ⊎ IsNilpotentIn A x }
 {}
 
-/// It is decided whether a module is zero, or local with a certificate, or has an endomorphism that is neither an isomorphism nor nilpotent.
-/// (Chapter I, 4.)
+/// It is decided whether a module is zero, or local with a certificate, or has an endomorphism that is neither an isomorphism nor nilpotent; and so for
+/// each algebra that is not zero. (Chapter I, 4.)
 pub fn locality_is_decided()
-    ensures { (q : Gf) (Q : Quiver) (X : Rep q Q) (B : HomBasis X X)
+    ensures module { (q : Gf) (Q : Quiver) (X : Rep q Q) (B : HomBasis X X)
         → IsZero X ⊎ (IsLocal X × LocalCertificate (endomorphism_algebra B)) ⊎ ((f : Hom X X) × (IsIso f → ⊥) × (IsNilpotent f → ⊥)) }
+    ensures algebra { (q : Gf) (A : Algebra q) → A.unit ≢ zeros q 1 A.size → ((x : Element A) × IsMixed A x) ⊎ LocalCertificate A }
 {}
 
 /// Each module is a direct sum of local modules, and in one way only: of two such decompositions the parts match. (Chapter I, 4.10.)
