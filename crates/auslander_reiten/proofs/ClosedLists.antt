@@ -163,8 +163,8 @@ module _ {q : Gf} {A : BoundQuiver} (T : TwoSided q A) (n : ℕ) (Y : ℕ → Re
           ∙ compose_sum_of s.parts.count lifted.lift (λ i. (s.parts.summand i).projection ≫ (s.parts.summand i).injection))
           ∙ ap (λ z. z ≫ family_in n Y k ≫ c) (sum_of_compose s.parts.count _ s.g) ∙ ap (λ z. z ≫ c) (sum_of_compose s.parts.count _ (family_in n Y k)) ∙ sum_of_compose s.parts.count _ c
           ∙ sum_of-zeros s.parts.count _ (λ i b.
-            ap (λ z. z ≫ s.g ≫ family_in n Y k ≫ c) (sym (compose_assoc lifted.lift (s.parts.summand i).projection (s.parts.summand i).injection))
-            ∙ one_part k l s (s.listed i b) (lifted.lift ≫ (s.parts.summand i).projection) (s.parts.summand i).injection)
+          ap (λ z. z ≫ s.g ≫ family_in n Y k ≫ c) (sym (compose_assoc lifted.lift (s.parts.summand i).projection (s.parts.summand i).injection))
+          ∙ one_part k l s (s.listed i b) (lifted.lift ≫ (s.parts.summand i).projection) (s.parts.summand i).injection)
         where
           s : ListedSource A n Y (Y k)
           s = C.source k l
