@@ -1,5 +1,5 @@
 -- Right almost split homomorphisms, and lists of local modules that are closed under them. (Assem, Simson, Skowroński, volume 1, chapter IV, 1, 3 and 4.)
-use Rattle.std.specs.Prelude.{ℕ, ◌+◌, ◌<◌, ◌≢◌}
+use Rattle.std.specs.Prelude.{ℕ, ◌<◌, ◌≢◌}
 use Rattle.linear_algebra.specs.Field.{Gf}
 use Rattle.representations.specs.Quiver.{Quiver, BoundQuiver}
 use Rattle.representations.specs.Rep.{Rep, IsMod}
