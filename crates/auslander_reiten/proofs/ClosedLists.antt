@@ -1,8 +1,8 @@
 -- A closed list has each local module, up to isomorphism.
-use Rattle.std.proofs.Common.{ℕ, zero, suc, ◌+◌, ◌-◌, ◌<◌, ◌≤◌, ◌≡◌, ◌≢◌, ◌⊎◌, inl, inr, refl, sym, ap, ap₂, ◌∙◌, arith, subst}
+use Rattle.std.proofs.Common.{ℕ, zero, suc, ◌+◌, ◌<◌, ◌≡◌, ◌≢◌, ◌⊎◌, inl, inr, sym, ap, ◌∙◌, arith, subst}
 use Rattle.std.proofs.lemmas.Bool.{cases_lt, cases_eq}
 use Rattle.linear_algebra.specs.Field.{Gf}
-use Rattle.linear_algebra.specs.Matrix.{Mat, Row, zeros, one, transpose, ◌·◌}
+use Rattle.linear_algebra.specs.Matrix.{zeros, transpose, ◌·◌}
 use Rattle.linear_algebra.specs.Parts.{unit, unit_column}
 use Rattle.linear_algebra.proofs.MatrixLaws.{mul_zeros, zeros_mul, transpose_zeros, transpose_transpose}
 use Rattle.linear_algebra.proofs.PartsLaws.{unit_unit}
@@ -10,14 +10,14 @@ use Rattle.linear_algebra.proofs.Search.{search_or_all}
 use Rattle.linear_algebra.proofs.Solving.{zeros_not_one}
 use Rattle.representations.specs.Quiver.{Quiver, BoundQuiver, opposite_algebra}
 use Rattle.representations.specs.Rep.{Rep, IsMod}
-use Rattle.representations.specs.Hom.{Hom, ◌≫◌, ◌⊕◌, identity, zero_hom, sum_of}
-use Rattle.representations.specs.Module.{IsIso, IsNilpotent, IsSplitEpi, Biproduct}
+use Rattle.representations.specs.Hom.{Hom, ◌≫◌, identity, zero_hom}
+use Rattle.representations.specs.Module.{IsIso, IsSplitEpi}
 use Rattle.representations.specs.Dual.{dual}
 use Rattle.representations.specs.Sum.{sum_family}
-use Rattle.representations.proofs.Homs.{compose-at, zero_hom-at, same-at, compose_assoc, compose_identity, identity_compose, compose_zero, zero_compose, compose_sum_of, sum_of_compose, sum_of-same}
+use Rattle.representations.proofs.Homs.{zero_hom-at, same-at, compose_assoc, compose_identity, identity_compose, compose_zero, zero_compose, compose_sum_of, sum_of_compose}
 use Rattle.representations.proofs.Biproducts.{sum_of-zeros}
 use Rattle.representations.proofs.Duals.{IsMod-dual}
-use Rattle.projectives.specs.Words.{Words, projective}
+use Rattle.projectives.specs.Words.{projective}
 use Rattle.projectives.specs.Projective.{generator}
 use Rattle.projectives.specs.Families.{family_in}
 use Rattle.projectives.specs.Components.{family_out}

@@ -1,5 +1,6 @@
 pub mod Algebra
 pub mod Certificate
+pub mod Counting
 pub mod Decomposition
 pub mod Ideal
 pub mod ImageChain

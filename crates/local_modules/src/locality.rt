@@ -10,6 +10,7 @@ ghost use Rattle.representations.specs.Sum.{sum_family};
 ghost use Rattle.local_modules.specs.Local.{IsLocal};
 ghost use Rattle.local_modules.specs.Splitting.{ProperSplitting};
 ghost use Rattle.local_modules.specs.Isomorphic.{Isomorphic, AreApart, Matching};
+ghost use Rattle.local_modules.specs.Counting.{IsCount};
 
 /// Fitting's lemma: an endomorphism is an isomorphism, or nilpotent, or the module is a direct sum of two modules that are not zero. A local
 /// module is no such sum. (Chapter I, 4.)
@@ -43,4 +44,11 @@ pub fn comparing_local_modules()
 pub fn krull_schmidt()
     ensures { (q : Gf) (Q : Quiver) (m n : ℕ) (X Y : ℕ → Rep q Q) → ((i : ℕ) → i < m → IsLocal (X i)) → ((i : ℕ) → i < n → IsLocal (Y i))
         → (f : Hom (sum_family m X) (sum_family n Y)) → IsIso f → Matching m X n Y }
+{}
+
+/// The multiplicity of a module: two lists of local modules with isomorphic direct sums have as many members that are isomorphic to it.
+/// (Chapter I, 4.10.)
+pub fn multiplicities()
+    ensures { (q : Gf) (Q : Quiver) (m n : ℕ) (X Y : ℕ → Rep q Q) → ((i : ℕ) → i < m → IsLocal (X i)) → ((i : ℕ) → i < n → IsLocal (Y i))
+        → (f : Hom (sum_family m X) (sum_family n Y)) → IsIso f → (Z : Rep q Q) (c d : ℕ) → IsCount m X Z c → IsCount n Y Z d → c ≡ d }
 {}
