@@ -62,6 +62,9 @@ module _ {q : Gf} {A : BoundQuiver} (T : TwoSided q A) {L E M : Rep q A.quiver} 
 
   pub almost_split : IsAlmostSplit A f g
   almost_split = record {
+    left_module = left_mod;
+    middle_module = middle_mod;
+    right_module = D.is_module;
     short_exact = sequence_exact T D F f g S;
     not_split = right_not_split T D F f g S;
     left_local = left_local;
@@ -115,7 +118,7 @@ module _ {q : Gf} {A : BoundQuiver} (T : TwoSided q A) {M : Rep q A.quiver} (D :
     g = inclusion middle_part ≫ onto_second νP M;
     sequence = record {
       i = inclusion left_part;
-      left = kernel_is_kernel νd;
+      left = record { presentation = D.presentation; kernel = kernel_is_kernel νd };
       j = inclusion middle_part;
       middle = kernel_is_kernel square;
       first = into_middle.is;
@@ -130,8 +133,8 @@ module _ {q : Gf} {A : BoundQuiver} (T : TwoSided q A) (M : Rep q A.quiver) (N :
   abbrev pub resolution : ProjectiveSequence T.words M
   resolution = canonical_resolution A T.words T.basis M N
 
-  pub minimal_presentation : IsMinimalPresentation (resolution.differential 1) (resolution.differential 0)
-  minimal_presentation = presentation_of_resolution T.words M resolution (canonical_minimal A T.words T.basis M N resolution 1 (canonical_resolution_canonical A T.words T.basis M N 1))
+  pub minimal_presentation : IsMinimalPresentation T (length (resolution.term 1)) (vertex_in (resolution.term 1)) (length (resolution.term 0)) (vertex_in (resolution.term 0)) (resolution.differential 1) (resolution.differential 0)
+  minimal_presentation = presentation_of_resolution T M resolution (canonical_minimal A T.words T.basis M N resolution 1 (canonical_resolution_canonical A T.words T.basis M N 1))
 
   cover_mono : IsZero (projectives T.words (length (resolution.term 1)) (vertex_in (resolution.term 1))) → IsMono (resolution.differential 0)
   cover_mono z w x e = let s = minimal_presentation.exact.exact w x e in sym s.is ∙ through_zero s.by ((resolution.differential 1).at w) (z w)
@@ -170,7 +173,7 @@ pub presented_not_projective : {q : Gf} {A : BoundQuiver} (T : TwoSided q A) {M 
 presented_not_projective {A = A} T {M} D p =
     let P' = projectives_mod A T.words T.basis D.h D.u in
     let x = projectives_lift A T.words T.basis p.k p.v (projectives T.words D.h D.u) M P' D.is_module D.c D.presentation.onto p.onto in
-    D.not_projective (cover_splits A (projectives_mod A T.words T.basis D.k D.v) P' D.d D.c D.presentation (p.splits.section ≫ x.0)
+    D.not_projective (cover_splits D.d D.c D.presentation (p.splits.section ≫ x.0)
     (compose_assoc p.splits.section x.0 D.c ∙ ap (λ z. p.splits.section ≫ z) x.1 ∙ p.splits.is))
 
 -- So each local module is projective, or the right end of an almost split sequence, and never both.
@@ -182,8 +185,6 @@ module _ {q : Gf} {A : BoundQuiver} (T : TwoSided q A) (M : Rep q A.quiver) wher
       record {
         left_end = c.left_end;
         middle_term = c.middle_term;
-        left_module = left_mod T D F c.f c.g c.sequence;
-        middle_module = middle_mod T D F c.f c.g c.sequence;
         f = c.f;
         g = c.g;
         almost_split = almost_split T D F c.f c.g c.sequence;
@@ -192,9 +193,9 @@ module _ {q : Gf} {A : BoundQuiver} (T : TwoSided q A) (M : Rep q A.quiver) wher
   pub ends_or_projective : IsMod A M → IsLocal M → AlmostSplitSequence A M ⊎ IsProjective T.words M
   ends_or_projective N l = elim (presented_or_projective T M N l) [ inl D ↦ inl (sequence_ending D) | inr p ↦ inr p ]
 
-  pub ends_not_projective : IsMod A M → AlmostSplitSequence A M → IsProjective T.words M → ⊥
-  ends_not_projective N s p =
-      let x = projectives_lift A T.words T.basis p.k p.v s.middle_term M s.middle_module N s.g s.almost_split.short_exact.onto p.onto in
+  pub ends_not_projective : AlmostSplitSequence A M → IsProjective T.words M → ⊥
+  ends_not_projective s p =
+      let x = projectives_lift A T.words T.basis p.k p.v s.middle_term M s.almost_split.middle_module s.almost_split.right_module s.g s.almost_split.short_exact.onto p.onto in
       s.almost_split.not_split (record {
         section = p.splits.section ≫ x.0;
         is = compose_assoc p.splits.section x.0 s.g ∙ ap (λ z. p.splits.section ≫ z) x.1 ∙ p.splits.is;

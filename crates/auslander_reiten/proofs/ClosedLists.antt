@@ -29,7 +29,7 @@ use Rattle.projectives.proofs.Turning.{turn-at}
 use Rattle.projectives.proofs.Components.{in-out, in-out_other, whole}
 use Rattle.local_modules.specs.Local.{IsLocal}
 use Rattle.local_modules.specs.Isomorphic.{Isomorphic, AreApart}
-use Rattle.local_modules.specs.RadicalOfSum.{ArePairwiseApart, part, IsRadical, composite_of}
+use Rattle.local_modules.specs.RadicalOfSum.{AreLocalAndApart, part, IsRadical, composite_of}
 use Rattle.local_modules.proofs.LocalRings.{iso_identity, iso_compose, both_iso, zero_no_iso}
 use Rattle.local_modules.proofs.Comparing.{isomorphic_or_apart, isomorphic_not_apart}
 use Rattle.local_modules.proofs.RadicalOfSum.{radical_exponent, radical_power}
@@ -76,8 +76,8 @@ module _ {q : Gf} {A : BoundQuiver} (T : TwoSided q A) (n : ℕ) (Y : ℕ → Re
   abbrev S : Rep q A.quiver
   S = sum_family n Y
 
-  pairwise : ArePairwiseApart n Y
-  pairwise k l a b d f g = elim ((C.local k a).decides (f ≫ g)) [ inl i ↦ absurd (C.apart k l a b d f g i) | inr z ↦ z ]
+  pairwise : AreLocalAndApart n Y
+  pairwise = record { local = C.local; apart = C.apart }
 
   -- ---- what goes through a right almost split homomorphism is in the radical
 
@@ -108,7 +108,7 @@ module _ {q : Gf} {A : BoundQuiver} (T : TwoSided q A) (n : ℕ) (Y : ℕ → Re
             ∙ compose_assoc (family_in n Y a ≫ (u ≫ g)) (family_in n Y k) (family_out n Y a) ∙ ap (λ z. family_in n Y a ≫ (u ≫ g) ≫ z) (in-out_other n Y k a l d)
             ∙ compose_zero (family_in n Y a ≫ (u ≫ g)) (Y a)
 
-    through_radical : IsRadical n Y through
+    through_radical : IsRadical pairwise through
     through_radical a b = elim ((C.local a b).decides (part n Y through a a)) [ inl i ↦ absurd (no_iso a b (cases_eq k a) i) | inr z ↦ z ]
 
   -- ---- a local module that is apart from all members
@@ -121,9 +121,9 @@ module _ {q : Gf} {A : BoundQuiver} (T : TwoSided q A) (n : ℕ) (Y : ℕ → Re
 
     -- Where all homomorphisms to S, and then one member of the radical more, are zero, so they are without it.
     abbrev VanishesAfter : ℕ → Type 0
-    VanishesAfter m = (H : Hom X S) (h : ℕ → Hom S S) → ((i : ℕ) → i < m → IsRadical n Y (h i)) → H ≫ composite_of h m ≡ zero_hom X S
+    VanishesAfter m = (H : Hom X S) (h : ℕ → Hom S S) → ((i : ℕ) → i < m → IsRadical pairwise (h i)) → H ≫ composite_of h m ≡ zero_hom X S
 
-    module _ (m : ℕ) (next : VanishesAfter (suc m)) (h : ℕ → Hom S S) (radical : (i : ℕ) → i < m → IsRadical n Y (h i)) where
+    module _ (m : ℕ) (next : VanishesAfter (suc m)) (h : ℕ → Hom S S) (radical : (i : ℕ) → i < m → IsRadical pairwise (h i)) where
       abbrev c : Hom S S
       c = composite_of h m
 
@@ -151,7 +151,7 @@ module _ {q : Gf} {A : BoundQuiver} (T : TwoSided q A) (n : ℕ) (Y : ℕ → Re
               ∙ sym (compose_assoc (y ≫ p.same.forth) p.same.iso.inverse i)
               ∙ ap (λ z. z ≫ i) (compose_assoc y p.same.forth p.same.iso.inverse ∙ ap (λ z. y ≫ z) p.same.iso.right ∙ compose_identity y))
 
-          members : (t : ℕ) → t < suc m → IsRadical n Y (before_all (u ≫ s.g ≫ family_in n Y k) h t)
+          members : (t : ℕ) → t < suc m → IsRadical pairwise (before_all (u ≫ s.g ≫ family_in n Y k) h t)
           members zero b = through_radical k l s.g s.almost_split u
           members (suc t) b = radical t (omega (arith, b))
 
@@ -180,7 +180,7 @@ module _ {q : Gf} {A : BoundQuiver} (T : TwoSided q A) (n : ℕ) (Y : ℕ → Re
     vanishes : (fuel m : ℕ) → m + fuel ≡ radical_exponent n Y → VanishesAfter m
     vanishes zero m e H h r =
         let same : m ≡ radical_exponent n Y = omega (arith, e) in
-        ap (λ z. H ≫ composite_of h z) same ∙ ap (λ z. H ≫ z) (radical_power n Y C.local pairwise h (λ i l. r i (omega (arith, l, same)))) ∙ compose_zero H S
+        ap (λ z. H ≫ composite_of h z) same ∙ ap (λ z. H ≫ z) (radical_power n Y pairwise h (λ i l. r i (omega (arith, l, same)))) ∙ compose_zero H S
     vanishes (suc fuel) m e H h r = without_it m (vanishes fuel (suc m) (omega (arith, e))) h r H
 
     all_zero : (H : Hom X S) → H ≡ zero_hom X S
@@ -230,4 +230,4 @@ module _ {q : Gf} {A : BoundQuiver} (T : TwoSided q A) (n : ℕ) (Y : ℕ → Re
 
 -- The right half of an almost split sequence.
 pub right_half : {q : Gf} {A : BoundQuiver} {L E M : Rep q A.quiver} (f : Hom L E) (g : Hom E M) → IsAlmostSplit A f g → IsRightAlmostSplit A g
-right_half f g s = record { not_split = s.not_split; lifts = s.lifts }
+right_half f g s = record { source_module = s.middle_module; target_module = s.right_module; not_split = s.not_split; lifts = s.lifts }

@@ -32,7 +32,7 @@ nakayama-zero T k v h u =
     ap (nakayama T k v h u) (sym (zero_multiple (zero_hom (projectives T.words k v) (projectives T.words h u))))
     ∙ nakayama-multiple T k v h u 0 (zero_hom (projectives T.words k v) (projectives T.words h u)) ∙ zero_multiple _
 
-module _ {q : Gf} {A : BoundQuiver} (T : TwoSided q A) {L M : Rep q A.quiver} (D : LocalPresentation T M) (i : Hom L (injectives T D.k D.v)) (left : IsTranslate T D.k D.v D.h D.u D.d i) where
+module _ {q : Gf} {A : BoundQuiver} (T : TwoSided q A) {L M : Rep q A.quiver} (D : LocalPresentation T M) (i : Hom L (injectives T D.k D.v)) (left : IsTranslate T D.k D.v D.h D.u M D.d D.c i) where
   abbrev P : Rep q A.quiver
   P = projectives T.words D.k D.v
 
@@ -61,10 +61,10 @@ module _ {q : Gf} {A : BoundQuiver} (T : TwoSided q A) {L M : Rep q A.quiver} (D
   P'_mod = projectives_mod A T.words T.basis D.h D.u
 
   pub translate_mod : IsMod A L
-  translate_mod = IsMod-mono A i left.mono (injectives_mod T D.k D.v)
+  translate_mod = IsMod-mono A i left.kernel.mono (injectives_mod T D.k D.v)
 
   left_zero : i ≫ νd ≡ zero_hom L νP'
-  left_zero = IsExact-zero i νd left.exact
+  left_zero = IsExact-zero i νd left.kernel.exact
 
   -- Endomorphisms of P, of P' and of M that go with n through the presentation and its image under the Nakayama functor.
   pub record Companions (n : Hom L L) : Type 0 where
@@ -77,14 +77,14 @@ module _ {q : Gf} {A : BoundQuiver} (T : TwoSided q A) {L M : Rep q A.quiver} (D
 
   -- first on νP and on νP'
   on_νP : (n : Hom L L) → (a : Hom νP νP) × (i ≫ a ≡ n ≫ i)
-  on_νP n = injectives_injective T L νP translate_mod (injectives_mod T D.k D.v) i D.k D.v left.mono (n ≫ i)
+  on_νP n = injectives_injective T L νP translate_mod (injectives_mod T D.k D.v) i D.k D.v left.kernel.mono (n ≫ i)
 
   killed : (n : Hom L L) (a : Hom νP νP) → i ≫ a ≡ n ≫ i → i ≫ (a ≫ νd) ≡ zero_hom L νP'
   killed n a e = sym (compose_assoc i a νd) ∙ ap (λ z. z ≫ νd) e ∙ compose_assoc n i νd ∙ ap (λ z. n ≫ z) left_zero ∙ compose_zero n νP'
 
   killed_rows : (n : Hom L L) (a : Hom νP νP) → i ≫ a ≡ n ≫ i → (w : ℕ) (x : Row q (νP.dim w)) → x · νd.at w ≡ zeros q 1 (νP'.dim w) → x · (a ≫ νd).at w ≡ zeros q 1 (νP'.dim w)
   killed_rows n a e w x z =
-      let s = left.exact.exact w x z in
+      let s = left.kernel.exact.exact w x z in
       ap (λ y. y · (a ≫ νd).at w) (sym s.is) ∙ zero_on_rows i (a ≫ νd) (killed n a e) w s.by
 
   on_νP' : (n : Hom L L) (a : Hom νP νP) → i ≫ a ≡ n ≫ i → (b : Hom νP' νP') × (νd ≫ b ≡ a ≫ νd)
@@ -125,7 +125,7 @@ module _ {q : Gf} {A : BoundQuiver} (T : TwoSided q A) {L M : Rep q A.quiver} (D
     nilpotent_above : IsNilpotent p.on_first → IsNilpotent n
     nilpotent_above z = record {
       exponent = z.exponent;
-      vanishes = mono_cancels i left.mono (power n z.exponent) (zero_hom L L) (
+      vanishes = mono_cancels i left.kernel.mono (power n z.exponent) (zero_hom L L) (
           power-shift n (on_P p.on_first) i (sym p.embedding) z.exponent
           ∙ ap (λ y. i ≫ y) (sym (nakayama-power T D.k D.v p.on_first z.exponent) ∙ ap on_P z.vanishes ∙ nakayama-zero T D.k D.v D.k D.v)
           ∙ compose_zero i νP ∙ sym (zero_compose L i));
@@ -154,16 +154,16 @@ module _ {q : Gf} {A : BoundQuiver} (T : TwoSided q A) {L M : Rep q A.quiver} (D
     iso_above : IsIso (on_P p.on_first) → IsIso (on_P' p.on_second) → IsIso n
     iso_above a b = record {
       inverse = m.factor;
-      right = mono_cancels i left.mono (n ≫ m.factor) (identity L) (
+      right = mono_cancels i left.kernel.mono (n ≫ m.factor) (identity L) (
           compose_assoc n m.factor i ∙ ap (λ z. n ≫ z) m.is ∙ sym (compose_assoc n i a.inverse) ∙ ap (λ z. z ≫ a.inverse) (sym p.embedding)
           ∙ compose_assoc i (on_P p.on_first) a.inverse ∙ ap (λ z. i ≫ z) a.right ∙ compose_identity i ∙ sym (identity_compose i));
-      left = mono_cancels i left.mono (m.factor ≫ n) (identity L) (
+      left = mono_cancels i left.kernel.mono (m.factor ≫ n) (identity L) (
           compose_assoc m.factor n i ∙ ap (λ z. m.factor ≫ z) (sym p.embedding) ∙ sym (compose_assoc m.factor i (on_P p.on_first)) ∙ ap (λ z. z ≫ on_P p.on_first) m.is
           ∙ compose_assoc i a.inverse (on_P p.on_first) ∙ ap (λ z. i ≫ z) a.left ∙ compose_identity i ∙ sym (identity_compose i));
     }
       where
         m : FactorsBefore i (i ≫ a.inverse)
-        m = through_kernel i νd left.mono left.exact (i ≫ a.inverse) (
+        m = through_kernel i νd left.kernel.mono left.kernel.exact (i ≫ a.inverse) (
             compose_assoc i a.inverse νd
             ∙ ap (λ z. i ≫ z) (inverse-shift (on_P p.on_first) (on_P' p.on_second) νd a b (square_above p.on_first p.on_second p.differential))
             ∙ sym (compose_assoc i νd b.inverse) ∙ ap (λ z. z ≫ b.inverse) left_zero ∙ zero_compose L b.inverse)
@@ -176,13 +176,13 @@ module _ {q : Gf} {A : BoundQuiver} (T : TwoSided q A) {L M : Rep q A.quiver} (D
 
   -- τM is not zero.
   differential_mono : IsZero L → IsMono νd
-  differential_mono z w x e = let s = left.exact.exact w x e in sym s.is ∙ through_zero s.by (i.at w) (z w)
+  differential_mono z w x e = let s = left.kernel.exact.exact w x e in sym s.is ∙ through_zero s.by (i.at w) (z w)
 
   pub translate_nonzero : IsZero L → ⊥
   translate_nonzero z =
       let r = injectives_injective T νP νP' (injectives_mod T D.k D.v) (injectives_mod T D.h D.u) νd D.k D.v (differential_mono z) (identity νP) in
       let s = nakayama_reflects_split_mono T D.k D.v D.h D.u D.d (record { retraction = r.0; is = r.1 }) in
-      D.not_projective (differential_splits A P_mod P'_mod D.d D.c D.presentation s.retraction s.is)
+      D.not_projective (differential_splits D.d D.c D.presentation s.retraction s.is)
 
   -- τM is local.
   decided : (n : Hom L L) (p : Companions n) → IsIso p.on_end ⊎ IsNilpotent p.on_end → IsIso n ⊎ IsNilpotent n

@@ -120,7 +120,7 @@ module _ {q : Gf} {A : BoundQuiver} (T : TwoSided q A) {L E M : Rep q A.quiver} 
       ∙ ap (λ z. S.i ≫ z) (first_first νP M) ∙ compose_identity S.i
 
   pub left_mono : IsMono f
-  left_mono w x e = S.left.mono w x (
+  left_mono w x e = S.left.kernel.mono w x (
       ap (λ z. x · z) (sym (same-at left_is w) ∙ compose-at f part w) ∙ sym (mul_assoc_mat x (f.at w) (part.at w)) ∙ ap (λ z. z · part.at w) e ∙ zeros_mul (part.at w))
 
   pub left_right : f ≫ g ≡ zero_hom L M
@@ -157,14 +157,14 @@ module _ {q : Gf} {A : BoundQuiver} (T : TwoSided q A) {L E M : Rep q A.quiver} 
   pub middle_exact : IsExact f g
   middle_exact = record {
     complex = λ w x. zero_on_rows f g left_right w x;
-    exact = λ w y e. reached w y e (S.left.exact.exact w (y · part.at w) (part_killed w y e));
+    exact = λ w y e. reached w y e (S.left.kernel.exact.exact w (y · part.at w) (part_killed w y e));
   }
 
   -- M is no summand of a projective module, so g is surjective.
   not_split_over : (w : ℕ) (y : Hom (projective T.words w) M) → IsSplitEpi y → ⊥
   not_split_over w y s =
       let x = projective_lifts A T.words T.basis (projectives T.words D.h D.u) M (projectives_mod A T.words T.basis D.h D.u) D.is_module w D.c D.presentation.onto y in
-      D.not_projective (cover_splits A (projectives_mod A T.words T.basis D.k D.v) (projectives_mod A T.words T.basis D.h D.u) D.d D.c D.presentation (s.section ≫ x.0)
+      D.not_projective (cover_splits D.d D.c D.presentation (s.section ≫ x.0)
       (compose_assoc s.section x.0 D.c ∙ ap (λ z. s.section ≫ z) x.1 ∙ s.is))
 
   pub right_onto : IsEpi g

@@ -16,7 +16,7 @@ use Rattle.representations.specs.RadicalModule.{radical}
 use Rattle.representations.proofs.Homs.{compose-at, same-at, compose_assoc, compose_identity, zero_compose, compose_sum_of, sum_of_compose}
 use Rattle.representations.proofs.Radical.{radical-hom}
 use Rattle.representations.proofs.RadicalModule.{radical_in_basis}
-use Rattle.representations.proofs.Submodules.{inclusion_mono}
+use Rattle.representations.proofs.Submodules.{inclusion_mono, IsMod-sub}
 use Rattle.representations.proofs.Factoring.{through_mono}
 use Rattle.projectives.specs.Words.{projective}
 use Rattle.projectives.specs.Families.{family_in}
@@ -87,6 +87,8 @@ module _ {q : Gf} {A : BoundQuiver} (T : TwoSided q A) {Y : Rep q A.quiver} (M :
 
   pub radical_right_almost_split_at : IsRightAlmostSplit A (inclusion (radical Y))
   radical_right_almost_split_at = record {
+    source_module = IsMod-sub A (radical Y) M;
+    target_module = M;
     not_split = radical_inclusion_not_split A M (λ z. L.nonzero (z L.vertex));
     lifts = λ X X_mod h n. elim (into_radical_or_splits A T.words T.basis v inside X_mod (h ≫ e.forth)) [
       | inl r ↦ let k = through_mono (inclusion (radical Y)) h (inclusion_mono (radical Y)) (λ w x. radical_in_basis (rows_in_radical h r w x)) in record { lift = k.factor; is = k.is }

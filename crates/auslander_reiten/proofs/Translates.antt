@@ -1,4 +1,4 @@
--- The translate and the transpose exist in canonical form, which is unique; their sizes.
+-- The kernel of νd and the cokernel of the transposed of d exist in canonical form, which is unique; their sizes. So each module has a translate and a transpose.
 use Rattle.std.proofs.Common.{ℕ, ◌+◌, ◌≡◌, sym, ap, ◌∙◌, List, length}
 use Rattle.linear_algebra.specs.Field.{Gf}
 use Rattle.linear_algebra.specs.Matrix.{Row, zeros, ◌·◌}
@@ -27,6 +27,7 @@ use Rattle.projectives.specs.CanonicalCover.{vertex_in}
 use Rattle.projectives.proofs.Families.{projectives_mod}
 use Rattle.projectives.proofs.Nakayama.{injectives_mod}
 use Rattle.auslander_reiten.specs.ReducedCokernel.{reduced_cokernel}
+use Rattle.auslander_reiten.specs.Presentation.{IsMinimalPresentation}
 use Rattle.auslander_reiten.specs.Translates.{IsKernel, IsCokernel, IsReduced, IsCoReducedProjection, IsTranslate, IsTranspose, IsInverseTranslate}
 use Rattle.auslander_reiten.proofs.AlmostSplitSequences.{kernel_is_reduced, kernel_is_kernel, resolution, minimal_presentation}
 
@@ -62,59 +63,69 @@ module _ {q : Gf} {Q : Quiver} where
   reduced_cokernel_once f p r a c b d w = coreduced_unique (p.at w) (r.at w) (c w).0 (d w).0 (c w).1 (d w).1 (killed_by_other f p r a b w) (killed_by_other f r p b a w)
 
 module _ {q : Gf} {A : BoundQuiver} (T : TwoSided q A) (k : ℕ) (v : ℕ → ℕ) (h : ℕ) (u : ℕ → ℕ) (d : Hom (projectives T.words k v) (projectives T.words h u)) where
-  -- The translate: it exists, is a module, and its size at each vertex.
-  pub translate_exists : (N : Rep q A.quiver) × (i : Hom N (injectives T k v)) × IsTranslate T k v h u d i × IsReduced i
-  translate_exists = (
+  -- The kernel of νd: it exists, is a module, and its size at each vertex.
+  pub nakayama_kernel : (N : Rep q A.quiver) × (i : Hom N (injectives T k v)) × IsKernel i (nakayama T k v h u d) × IsReduced i
+  nakayama_kernel = (
     sub_rep (reduced_kernel (nakayama T k v h u d)),
     inclusion (reduced_kernel (nakayama T k v h u d)),
     kernel_is_kernel (nakayama T k v h u d),
     kernel_is_reduced (nakayama T k v h u d),
   )
 
-  pub translate_module : {N : Rep q A.quiver} (i : Hom N (injectives T k v)) → IsTranslate T k v h u d i → IsMod A N
-  translate_module i t = IsMod-mono A i t.mono (injectives_mod T k v)
+  pub nakayama_kernel_module : {N : Rep q A.quiver} (i : Hom N (injectives T k v)) → IsKernel i (nakayama T k v h u d) → IsMod A N
+  nakayama_kernel_module i t = IsMod-mono A i t.mono (injectives_mod T k v)
 
-  pub translate_size : {N : Rep q A.quiver} (i : Hom N (injectives T k v)) → IsTranslate T k v h u d i → (w : ℕ) → N.dim w + rank ((nakayama T k v h u d).at w) ≡ (injectives T k v).dim w
-  translate_size i t w = kernel_size i (nakayama T k v h u d) t.mono t.exact w
+  pub nakayama_kernel_size : {N : Rep q A.quiver} (i : Hom N (injectives T k v)) → IsKernel i (nakayama T k v h u d) → (w : ℕ) → N.dim w + rank ((nakayama T k v h u d).at w) ≡ (injectives T k v).dim w
+  nakayama_kernel_size i t w = kernel_size i (nakayama T k v h u d) t.mono t.exact w
 
-  -- The transpose.
-  pub transpose_exists : (N : Rep q (opposite A.quiver)) × (p : Hom (projectives (other T) k v) N) × IsTranspose T k v h u d p × IsCoReducedProjection p
-  transpose_exists = (
+  -- The cokernel of the transposed of d.
+  pub transposed_cokernel : (N : Rep q (opposite A.quiver)) × (p : Hom (projectives (other T) k v) N) × IsCokernel (transposed T k v h u d) p × IsCoReducedProjection p
+  transposed_cokernel = (
     quotient_rep (reduced_cokernel (transposed T k v h u d)),
     projection (reduced_cokernel (transposed T k v h u d)),
     cokernel_is_cokernel (transposed T k v h u d),
     cokernel_is_coreduced (transposed T k v h u d),
   )
 
-  pub transpose_module : {N : Rep q (opposite A.quiver)} (p : Hom (projectives (other T) k v) N) → IsTranspose T k v h u d p → IsMod (opposite_algebra A) N
-  transpose_module p t = IsMod-epi (opposite_algebra A) p t.onto (projectives_mod (opposite_algebra A) (other T) T.opposite_basis k v)
+  pub transposed_cokernel_module : {N : Rep q (opposite A.quiver)} (p : Hom (projectives (other T) k v) N) → IsCokernel (transposed T k v h u d) p → IsMod (opposite_algebra A) N
+  transposed_cokernel_module p t = IsMod-epi (opposite_algebra A) p t.onto (projectives_mod (opposite_algebra A) (other T) T.opposite_basis k v)
 
-  pub transpose_size : {N : Rep q (opposite A.quiver)} (p : Hom (projectives (other T) k v) N) → IsTranspose T k v h u d p → (w : ℕ) → rank ((transposed T k v h u d).at w) + N.dim w ≡ (projectives (other T) k v).dim w
-  transpose_size p t w = cokernel_size (transposed T k v h u d) p t.onto t.exact w
+  pub transposed_cokernel_size : {N : Rep q (opposite A.quiver)} (p : Hom (projectives (other T) k v) N) → IsCokernel (transposed T k v h u d) p → (w : ℕ) → rank ((transposed T k v h u d).at w) + N.dim w ≡ (projectives (other T) k v).dim w
+  transposed_cokernel_size p t w = cokernel_size (transposed T k v h u d) p t.onto t.exact w
+
+-- By each minimal presentation of M there are the translate and the transpose.
+module _ {q : Gf} {A : BoundQuiver} (T : TwoSided q A) (k : ℕ) (v : ℕ → ℕ) (h : ℕ) (u : ℕ → ℕ) (M : Rep q A.quiver) (d : Hom (projectives T.words k v) (projectives T.words h u)) (c : Hom (projectives T.words h u) M) (p : IsMinimalPresentation T k v h u d c) where
+  pub translate_by : (N : Rep q A.quiver) × (i : Hom N (injectives T k v)) × IsTranslate T k v h u M d c i × IsReduced i
+  translate_by = let t = nakayama_kernel T k v h u d in (t.0, t.1, record { presentation = p; kernel = t.2 }, t.3)
+
+  pub transpose_by : (N : Rep q (opposite A.quiver)) × (r : Hom (projectives (other T) k v) N) × IsTranspose T k v h u M d c r × IsCoReducedProjection r
+  transpose_by = let t = transposed_cokernel T k v h u d in (t.0, t.1, record { presentation = p; cokernel = t.2 }, t.3)
+
+-- So each module has them.
+module _ {q : Gf} {A : BoundQuiver} (T : TwoSided q A) (M : Rep q A.quiver) (m : IsMod A M) where
+  abbrev term : ℕ → List ℕ
+  term n = (resolution T M m).term n
+
+  pub translate_exists : (k : ℕ) × (v : ℕ → ℕ) × (h : ℕ) × (u : ℕ → ℕ) × (d : Hom (projectives T.words k v) (projectives T.words h u)) × (c : Hom (projectives T.words h u) M)
+      × (N : Rep q A.quiver) × (i : Hom N (injectives T k v)) × IsTranslate T k v h u M d c i × IsReduced i
+  translate_exists =
+      let R = resolution T M m in
+      let t = translate_by T (length (term 1)) (vertex_in (term 1)) (length (term 0)) (vertex_in (term 0)) M (R.differential 1) (R.differential 0) (minimal_presentation T M m) in
+      (length (term 1), vertex_in (term 1), length (term 0), vertex_in (term 0), R.differential 1, R.differential 0, t.0, t.1, t.2, t.3)
+
+  pub transpose_exists : (k : ℕ) × (v : ℕ → ℕ) × (h : ℕ) × (u : ℕ → ℕ) × (d : Hom (projectives T.words k v) (projectives T.words h u)) × (c : Hom (projectives T.words h u) M)
+      × (N : Rep q (opposite A.quiver)) × (p : Hom (projectives (other T) k v) N) × IsTranspose T k v h u M d c p × IsCoReducedProjection p
+  transpose_exists =
+      let R = resolution T M m in
+      let t = transpose_by T (length (term 1)) (vertex_in (term 1)) (length (term 0)) (vertex_in (term 0)) M (R.differential 1) (R.differential 0) (minimal_presentation T M m) in
+      (length (term 1), vertex_in (term 1), length (term 0), vertex_in (term 0), R.differential 1, R.differential 0, t.0, t.1, t.2, t.3)
 
 -- The inverse translate of a module.
-module _ {q : Gf} {A : BoundQuiver} (T : TwoSided q A) (X : Rep q A.quiver) (M : IsMod A X) where
-  abbrev vertices : ℕ → List ℕ
-  vertices n = (resolution (swap T) (dual X) (IsMod-dual A X M)).term n
-
-  pub inverse_translate_exists : (k : ℕ) × (v : ℕ → ℕ) × (h : ℕ) × (u : ℕ → ℕ) × (d : Hom (projectives (other T) k v) (projectives (other T) h u)) × (c : Hom (projectives (other T) h u) (dual X))
-      × (N : Rep q A.quiver) × (p : Hom (projectives T.words k v) N) × IsInverseTranslate T k v h u X d c p × IsCoReducedProjection p
-  inverse_translate_exists =
-      let R = resolution (swap T) (dual X) (IsMod-dual A X M) in
-      let k = length (vertices 1) in let v = vertex_in (vertices 1) in let h = length (vertices 0) in let u = vertex_in (vertices 0) in
-      let t = transpose_exists (swap T) k v h u (R.differential 1) in (
-        k,
-        v,
-        h,
-        u,
-        R.differential 1,
-        R.differential 0,
-        t.0,
-        t.1,
-        record { presentation = minimal_presentation (swap T) (dual X) (IsMod-dual A X M); transpose = t.2 },
-        t.3,
-      )
+pub inverse_translate_exists : {q : Gf} {A : BoundQuiver} (T : TwoSided q A) (X : Rep q A.quiver) → IsMod A X
+    → (k : ℕ) × (v : ℕ → ℕ) × (h : ℕ) × (u : ℕ → ℕ) × (d : Hom (projectives (other T) k v) (projectives (other T) h u)) × (c : Hom (projectives (other T) h u) (dual X))
+    × (N : Rep q A.quiver) × (p : Hom (projectives T.words k v) N) × IsInverseTranslate T k v h u X d c p × IsCoReducedProjection p
+inverse_translate_exists {A = A} T X M = transpose_exists (swap T) (dual X) (IsMod-dual A X M)
 
 pub inverse_translate_module : {q : Gf} {A : BoundQuiver} (T : TwoSided q A) (X : Rep q A.quiver) (k : ℕ) (v : ℕ → ℕ) (h : ℕ) (u : ℕ → ℕ) (d : Hom (projectives (other T) k v) (projectives (other T) h u)) (c : Hom (projectives (other T) h u) (dual X))
     {N : Rep q A.quiver} (p : Hom (projectives T.words k v) N) → IsInverseTranslate T k v h u X d c p → IsMod A N
-inverse_translate_module {A = A} T X k v h u d c p t = IsMod-epi A p t.transpose.onto (projectives_mod A T.words T.basis k v)
+inverse_translate_module {A = A} T X k v h u d c p t = IsMod-epi A p t.cokernel.onto (projectives_mod A T.words T.basis k v)

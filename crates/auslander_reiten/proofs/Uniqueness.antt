@@ -6,7 +6,7 @@ use Rattle.linear_algebra.proofs.MatrixLaws.{mul_assoc_mat, zeros_mul}
 use Rattle.linear_algebra.proofs.Inverses.{right_inverse_square}
 use Rattle.linear_algebra.proofs.Solving.{injective_right_inverse}
 use Rattle.representations.specs.Quiver.{Quiver, BoundQuiver}
-use Rattle.representations.specs.Rep.{Rep, IsMod}
+use Rattle.representations.specs.Rep.{Rep}
 use Rattle.representations.specs.Hom.{Hom, ◌≫◌, identity}
 use Rattle.representations.specs.Module.{IsMono, IsIso, IsNilpotent}
 use Rattle.representations.specs.Factoring.{FactorsBefore}
@@ -49,12 +49,12 @@ module _ {q : Gf} (A : BoundQuiver) {L E M : Rep q A.quiver} (f : Hom L E) (g : 
   pub over_iso : IsIso p
   over_iso = mono_iso p killed
 
-module _ {q : Gf} (A : BoundQuiver) {L E M L' E' : Rep q A.quiver} (f : Hom L E) (g : Hom E M) (S : IsAlmostSplit A f g) (N : IsMod A E) (f' : Hom L' E') (g' : Hom E' M) (S' : IsAlmostSplit A f' g') (N' : IsMod A E') where
+module _ {q : Gf} (A : BoundQuiver) {L E M L' E' : Rep q A.quiver} (f : Hom L E) (g : Hom E M) (S : IsAlmostSplit A f g) (f' : Hom L' E') (g' : Hom E' M) (S' : IsAlmostSplit A f' g') where
   forth : Lifts g' g
-  forth = S'.lifts E N g S.not_split
+  forth = S'.lifts E S.middle_module g S.not_split
 
   back : Lifts g g'
-  back = S.lifts E' N' g' S'.not_split
+  back = S.lifts E' S'.middle_module g' S'.not_split
 
   middle_iso : IsIso forth.lift
   middle_iso = iso_of_composites forth.lift back.lift

@@ -22,9 +22,12 @@ pub record IsShortExact {q : Gf} {Q : Quiver} {L E M : Rep q Q} (f : Hom L E) (g
   pub exact : IsExact f g
   pub onto : IsEpi g
 
--- Almost split: short exact, g no split epimorphism, both ends local; each homomorphism of a module to M that is no split epimorphism lifts
+-- Almost split: a short exact sequence of modules, g no split epimorphism, both ends local; each homomorphism of a module to M that is no split epimorphism lifts
 -- along g, and each homomorphism of L to a module that is no split monomorphism extends along f.
 pub record IsAlmostSplit {q : Gf} (A : BoundQuiver) {L E M : Rep q A.quiver} (f : Hom L E) (g : Hom E M) : Type 0 where
+  pub left_module : IsMod A L
+  pub middle_module : IsMod A E
+  pub right_module : IsMod A M
   pub short_exact : IsShortExact f g
   pub not_split : IsSplitEpi g → ⊥
   pub left_local : IsLocal L
@@ -32,12 +35,10 @@ pub record IsAlmostSplit {q : Gf} (A : BoundQuiver) {L E M : Rep q A.quiver} (f 
   pub lifts : (X : Rep q A.quiver) → IsMod A X → (h : Hom X M) → (IsSplitEpi h → ⊥) → Lifts g h
   pub extends : (Y : Rep q A.quiver) → IsMod A Y → (h : Hom L Y) → (IsSplitMono h → ⊥) → Extends f h
 
--- An almost split sequence of modules that ends in M.
+-- An almost split sequence that ends in M.
 pub record AlmostSplitSequence {q : Gf} (A : BoundQuiver) (M : Rep q A.quiver) : Type 0 where
   pub left_end : Rep q A.quiver
   pub middle_term : Rep q A.quiver
-  pub left_module : IsMod A left_end
-  pub middle_module : IsMod A middle_term
   pub f : Hom left_end middle_term
   pub g : Hom middle_term M
   pub almost_split : IsAlmostSplit A f g

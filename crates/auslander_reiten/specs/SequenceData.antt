@@ -27,7 +27,7 @@ pub record LocalPresentation {q : Gf} {A : BoundQuiver} (T : TwoSided q A) (M : 
   pub u : ℕ → ℕ
   pub d : Hom (projectives T.words k v) (projectives T.words h u)
   pub c : Hom (projectives T.words h u) M
-  pub presentation : IsMinimalPresentation d c
+  pub presentation : IsMinimalPresentation T k v h u d c
   pub not_projective : IsZero (projectives T.words k v) → ⊥
 
 -- A homomorphism t : M → νP', which stands for the functional on Hom (P', M) that takes y to the pairing of y and t. It is zero on c and then an
@@ -42,7 +42,7 @@ pub record EndFunctional {q : Gf} {A : BoundQuiver} (T : TwoSided q A) {M : Rep 
 -- f is i on the one side and zero on the other, and g is the projection to M.
 pub record SequenceData {q : Gf} {A : BoundQuiver} (T : TwoSided q A) {L E M : Rep q A.quiver} (D : LocalPresentation T M) (F : EndFunctional T D) (f : Hom L E) (g : Hom E M) : Type 0 where
   pub i : Hom L (injectives T D.k D.v)
-  pub left : IsTranslate T D.k D.v D.h D.u D.d i
+  pub left : IsTranslate T D.k D.v D.h D.u M D.d D.c i
   pub j : Hom E (sum_rep (injectives T D.k D.v) M)
   pub middle : IsKernel j (from_sum (nakayama T D.k D.v D.h D.u D.d) (negative_hom F.t))
   pub first : f ≫ j ≡ i ≫ into_first (injectives T D.k D.v) M

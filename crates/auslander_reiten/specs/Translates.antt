@@ -29,17 +29,19 @@ IsReduced i = (w : ℕ) → (pivot : ℕ → ℕ) × IsRowReduced (i.at w) pivot
 abbrev pub IsCoReducedProjection : {q : Gf} {Q : Quiver} {X N : Rep q Q} → Hom X N → Type 0
 IsCoReducedProjection p = (w : ℕ) → (place : ℕ → ℕ) × IsCoReduced (p.at w) place
 
-module _ {q : Gf} {A : BoundQuiver} (T : TwoSided q A) (k : ℕ) (v : ℕ → ℕ) (h : ℕ) (u : ℕ → ℕ) where
-  -- N is the translate τM, by its embedding i into νP, where d : P → P' begins a minimal presentation of M: the kernel of νd.
-  abbrev pub IsTranslate : {N : Rep q A.quiver} → Hom (projectives T.words k v) (projectives T.words h u) → Hom N (injectives T k v) → Type 0
-  IsTranslate d i = IsKernel i (nakayama T k v h u d)
+module _ {q : Gf} {A : BoundQuiver} (T : TwoSided q A) (k : ℕ) (v : ℕ → ℕ) (h : ℕ) (u : ℕ → ℕ) (M : Rep q A.quiver) where
+  -- N is the translate τM, by its embedding i into νP: the kernel of νd : νP → νP', where d and c are a minimal presentation P → P' → M.
+  pub record IsTranslate {N : Rep q A.quiver} (d : Hom (projectives T.words k v) (projectives T.words h u)) (c : Hom (projectives T.words h u) M) (i : Hom N (injectives T k v)) : Type 0 where
+    pub presentation : IsMinimalPresentation T k v h u d c
+    pub kernel : IsKernel i (nakayama T k v h u d)
 
-  -- N is the transpose of M, a module of the other side, by its projection p: the cokernel of the transposed of d.
-  abbrev pub IsTranspose : {N : Rep q (opposite A.quiver)} → Hom (projectives T.words k v) (projectives T.words h u) → Hom (projectives (other T) k v) N → Type 0
-  IsTranspose d p = IsCokernel (transposed T k v h u d) p
+  -- N is the transpose of M, a module of the other side, by its projection p: the cokernel of the transposed of d, where d and c are a minimal
+  -- presentation P → P' → M.
+  pub record IsTranspose {N : Rep q (opposite A.quiver)} (d : Hom (projectives T.words k v) (projectives T.words h u)) (c : Hom (projectives T.words h u) M) (p : Hom (projectives (other T) k v) N) : Type 0 where
+    pub presentation : IsMinimalPresentation T k v h u d c
+    pub cokernel : IsCokernel (transposed T k v h u d) p
 
 -- N is the inverse translate of X, by its projection p: the transpose of the dual of X, by a minimal presentation of that dual on the other side.
-pub record IsInverseTranslate {q : Gf} {A : BoundQuiver} (T : TwoSided q A) (k : ℕ) (v : ℕ → ℕ) (h : ℕ) (u : ℕ → ℕ) (X : Rep q A.quiver) {N : Rep q A.quiver}
-    (d : Hom (projectives (other T) k v) (projectives (other T) h u)) (c : Hom (projectives (other T) h u) (dual X)) (p : Hom (projectives T.words k v) N) : Type 0 where
-  pub presentation : IsMinimalPresentation d c
-  pub transpose : IsTranspose (swap T) k v h u d p
+abbrev pub IsInverseTranslate : {q : Gf} {A : BoundQuiver} (T : TwoSided q A) (k : ℕ) (v : ℕ → ℕ) (h : ℕ) (u : ℕ → ℕ) (X : Rep q A.quiver) {N : Rep q A.quiver}
+    → Hom (projectives (other T) k v) (projectives (other T) h u) → Hom (projectives (other T) h u) (dual X) → Hom (projectives T.words k v) N → Type 0
+IsInverseTranslate T k v h u X d c p = IsTranspose (swap T) k v h u (dual X) d c p

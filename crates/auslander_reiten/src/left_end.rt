@@ -17,7 +17,7 @@ ghost use Rattle.auslander_reiten.specs.SequenceData.{LocalPresentation, EndFunc
 /// The translate of a local module that is not projective is local. (Chapter IV, 2.)
 pub fn translate_is_local()
     ensures { (q : Gf) (A : BoundQuiver) (T : TwoSided q A) (L M : Rep q A.quiver) (D : LocalPresentation T M)
-        (i : Hom L (injectives T D.k D.v)) → IsTranslate T D.k D.v D.h D.u D.d i → IsLocal L }
+        (i : Hom L (injectives T D.k D.v)) → IsTranslate T D.k D.v D.h D.u M D.d D.c i → IsLocal L }
 {}
 
 /// Each homomorphism out of L extends along f, or is a split monomorphism. It follows for each short exact sequence with local left end

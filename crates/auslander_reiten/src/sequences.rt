@@ -46,13 +46,13 @@ pub fn data_exist()
 pub fn existence()
     ensures either { (q : Gf) (A : BoundQuiver) (T : TwoSided q A) (M : Rep q A.quiver) → IsMod A M → IsLocal M
         → AlmostSplitSequence A M ⊎ IsProjective T.words M }
-    ensures never_both { (q : Gf) (A : BoundQuiver) (T : TwoSided q A) (M : Rep q A.quiver) → IsMod A M → AlmostSplitSequence A M
+    ensures never_both { (q : Gf) (A : BoundQuiver) (T : TwoSided q A) (M : Rep q A.quiver) → AlmostSplitSequence A M
         → IsProjective T.words M → ⊥ }
 {}
 
 /// An almost split sequence is determined by its right end: two with the same right end are isomorphic, with the identity there.
 /// (Chapter IV, 1.)
 pub fn uniqueness()
-    ensures { (q : Gf) (A : BoundQuiver) (L E M L' E' : Rep q A.quiver) (f : Hom L E) (g : Hom E M) → IsAlmostSplit A f g → IsMod A E
-        → (f' : Hom L' E') (g' : Hom E' M) → IsAlmostSplit A f' g' → IsMod A E' → SequenceIsomorphism f g f' g' }
+    ensures { (q : Gf) (A : BoundQuiver) (L E M L' E' : Rep q A.quiver) (f : Hom L E) (g : Hom E M) → IsAlmostSplit A f g
+        → (f' : Hom L' E') (g' : Hom E' M) → IsAlmostSplit A f' g' → SequenceIsomorphism f g f' g' }
 {}

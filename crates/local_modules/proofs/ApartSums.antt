@@ -1,12 +1,12 @@
 -- Sums of local modules that are pairwise apart: an endomorphism all of whose diagonal components are isomorphisms is one.
-use Rattle.std.proofs.Common.{ℕ, zero, suc, ◌≡◌, ◌<◌, sym, ap, ap₂, ◌∙◌, subst, arith}
+use Rattle.std.proofs.Common.{ℕ, zero, suc, ◌≡◌, ◌≢◌, inl, inr, ◌<◌, sym, ap, ap₂, ◌∙◌, subst, arith}
 use Rattle.std.proofs.lemmas.Bool.{cases_eq}
 use Rattle.linear_algebra.specs.Field.{Gf}
 use Rattle.linear_algebra.proofs.Blocks.{no_rows}
 use Rattle.representations.specs.Quiver.{Quiver}
 use Rattle.representations.specs.Rep.{Rep}
 use Rattle.representations.specs.Hom.{Hom, Hom-eq, ◌≫◌, ◌⊕◌, identity, zero_hom, negative_hom}
-use Rattle.representations.specs.Module.{IsIso}
+use Rattle.representations.specs.Module.{IsIso, IsNilpotent}
 use Rattle.representations.specs.Sum.{sum_family, zero_rep}
 use Rattle.representations.proofs.Homs.{compose_assoc, compose_identity, compose_zero, compose_sum, sum_compose, compose_negative, negative_compose}
 use Rattle.representations.proofs.Biproducts.{sum_of-single}
@@ -14,8 +14,7 @@ use Rattle.representations.proofs.SumFamilies.{from_family, into_family, family_
 use Rattle.projectives.specs.Families.{choose, family_in}
 use Rattle.projectives.specs.Components.{family_out}
 use Rattle.projectives.proofs.Families.{choose-same, choose-other, in-from_family}
-use Rattle.local_modules.specs.Local.{IsLocal}
-use Rattle.local_modules.specs.RadicalOfSum.{ArePairwiseApart}
+use Rattle.local_modules.specs.RadicalOfSum.{AreLocalAndApart}
 use Rattle.local_modules.proofs.LocalRings.{iso_identity, iso_minus_nilpotent}
 use Rattle.local_modules.proofs.Elimination.{rest_of, iso_by_elimination}
 use Rattle.local_modules.proofs.KrullSchmidt.{skip, skip_other, skip_limit, skip_once, without}
@@ -30,16 +29,20 @@ module _ {q : Gf} {Q : Quiver} where
       (λ j b d. ap (λ z. g j ≫ z) (choose-other X j k (cases_eq j k) (identity (X k)) (zero_hom (X j) (X k)) d) ∙ compose_zero (g j) (X k))
       ∙ ap (λ z. g k ≫ z) (choose-same X k (cases_eq k k) (identity (X k)) (zero_hom (X k) (X k))) ∙ compose_identity (g k)
 
+  -- from one of them to another and back is nilpotent
+  pub apart_nilpotent : (n : ℕ) (Y : ℕ → Rep q Q) → AreLocalAndApart n Y → (k l : ℕ) → k < n → l < n → k ≢ l → (f : Hom (Y k) (Y l)) (g : Hom (Y l) (Y k)) → IsNilpotent (f ≫ g)
+  apart_nilpotent n Y C k l a b d f g = elim ((C.local k a).decides (f ≫ g)) [ inl i ↦ absurd (C.apart k l a b d f g i) | inr z ↦ z ]
+
   -- the diagonal components of what is left when the last member is eliminated
-  diagonal_rest : (n : ℕ) (Y : ℕ → Rep q Q) → ((k : ℕ) → k < suc n → IsLocal (Y k)) → ArePairwiseApart (suc n) Y → (x : Hom (sum_family (suc n) Y) (sum_family (suc n) Y))
+  diagonal_rest : (n : ℕ) (Y : ℕ → Rep q Q) → AreLocalAndApart (suc n) Y → (x : Hom (sum_family (suc n) Y) (sum_family (suc n) Y))
       → ((k : ℕ) → k < suc n → IsIso (family_in (suc n) Y k ≫ x ≫ family_out (suc n) Y k)) → (b : n < suc n)
       → (i : IsIso ((without n Y n b).in_second ≫ x ≫ (without n Y n b).out_second)) → (k : ℕ) → k < n
       → IsIso (family_in n (λ j. Y (skip n j)) k ≫ rest_of (without n Y n b) x i ≫ family_out n (λ j. Y (skip n j)) k)
   unfolding without rest_of
-  diagonal_rest n Y L apart x d b i k l = subst IsIso (sym component) (iso_minus_nilpotent (L (skip n k) (skip_limit n n k b l))
+  diagonal_rest n Y C x d b i k l = subst IsIso (sym component) (iso_minus_nilpotent (C.local (skip n k) (skip_limit n n k b l))
       (family_in (suc n) Y (skip n k) ≫ x ≫ family_out (suc n) Y (skip n k))
       (there ≫ (i.inverse ≫ back)) (d (skip n k) (skip_limit n n k b l))
-      (apart (skip n k) n (skip_limit n n k b l) b (skip_other n k) there (i.inverse ≫ back)))
+      (apart_nilpotent (suc n) Y C (skip n k) n (skip_limit n n k b l) b (skip_other n k) there (i.inverse ≫ back)))
     where
       others : ℕ → Rep q Q
       others j = Y (skip n j)
@@ -87,14 +90,16 @@ module _ {q : Gf} {Q : Quiver} where
           ∙ negative_compose (family_in n others k ≫ (in_others ≫ x ≫ family_out (suc n) Y n ≫ (i.inverse ≫ (family_in (suc n) Y n ≫ x ≫ out_others)))) (family_out n others k)
           ∙ ap negative_hom through)
 
-  pub diagonal_iso : (n : ℕ) (Y : ℕ → Rep q Q) → ((k : ℕ) → k < n → IsLocal (Y k)) → ArePairwiseApart n Y → (x : Hom (sum_family n Y) (sum_family n Y))
+  pub diagonal_iso : (n : ℕ) (Y : ℕ → Rep q Q) → AreLocalAndApart n Y → (x : Hom (sum_family n Y) (sum_family n Y))
       → ((k : ℕ) → k < n → IsIso (family_in n Y k ≫ x ≫ family_out n Y k)) → IsIso x
   unfolding sum_family without
-  diagonal_iso zero Y L apart x d = subst IsIso (Hom-eq (identity (zero_rep q Q)) x (λ v. no_rows ((identity (zero_rep q Q)).at v) (x.at v))) (iso_identity (zero_rep q Q))
-  diagonal_iso (suc n) Y L apart x d =
+  diagonal_iso zero Y C x d = subst IsIso (Hom-eq (identity (zero_rep q Q)) x (λ v. no_rows ((identity (zero_rep q Q)).at v) (x.at v))) (iso_identity (zero_rep q Q))
+  diagonal_iso (suc n) Y C x d =
       let b : n < suc n = omega arith in
       iso_by_elimination (without n Y n b) x (d n b) (diagonal_iso n (λ j. Y (skip n j))
-      (λ k l. L (skip n k) (skip_limit n n k b l))
-      (λ k l c e m. apart (skip n k) (skip n l) (skip_limit n n k b c) (skip_limit n n l b e) (λ i. m (skip_once n k l i)))
+      (record {
+        local = λ k l. C.local (skip n k) (skip_limit n n k b l);
+        apart = λ k l c e m. C.apart (skip n k) (skip n l) (skip_limit n n k b c) (skip_limit n n l b e) (λ i. m (skip_once n k l i));
+      })
       (rest_of (without n Y n b) x (d n b))
-      (diagonal_rest n Y L apart x d b (d n b)))
+      (diagonal_rest n Y C x d b (d n b)))

@@ -22,17 +22,17 @@ use Rattle.representations.specs.Hom.{Hom, Hom-eq, ◌≫◌, ◌⊕◌, identit
 use Rattle.representations.specs.Module.{IsIso, IsNilpotent}
 use Rattle.representations.specs.Sum.{sum_family}
 use Rattle.representations.specs.HomSpace.{HomBasis}
-use Rattle.representations.proofs.Homs.{compose-at, identity-at, zero_hom-at, sum-at, multiple-at, negative-at, same-at, compose_assoc, compose_identity, compose_zero, zero_compose, compose_sum, sum_compose, compose_multiple, multiple_compose, compose_negative, negative_compose, compose_sum_of, sum_of_compose}
+use Rattle.representations.proofs.Homs.{compose-at, identity-at, zero_hom-at, sum-at, multiple-at, negative-at, same-at, compose_assoc, compose_identity, compose_zero, zero_compose, compose_sum, sum_compose, identity_compose, sum_negative, compose_multiple, multiple_compose, compose_negative, negative_compose, compose_sum_of, sum_of_compose}
 use Rattle.representations.proofs.HomSpace.{hom_basis, coordinates, hom-coordinates, hom_sum, hom_scale}
 use Rattle.projectives.specs.Families.{family_in}
 use Rattle.projectives.specs.Components.{family_out}
 use Rattle.projectives.proofs.Components.{in-out, whole}
 use Rattle.local_modules.specs.Local.{IsLocal}
 use Rattle.local_modules.specs.Isomorphic.{Isomorphic}
-use Rattle.local_modules.specs.RadicalOfSum.{ArePairwiseApart, part, IsRadical, composite_of}
-use Rattle.local_modules.proofs.LocalRings.{never_both, nilpotent_sum, nilpotent_multiple, nilpotent_after, nilpotent_before, iso_identity, iso_minus_nilpotent, both_iso}
+use Rattle.local_modules.specs.RadicalOfSum.{AreLocalAndApart, part, IsRadical, composite_of}
+use Rattle.local_modules.proofs.LocalRings.{identity_not_zero, never_both, nilpotent_sum, nilpotent_multiple, nilpotent_after, nilpotent_before, iso_identity, iso_minus_nilpotent, both_iso}
 use Rattle.local_modules.proofs.Comparing.{zero_nilpotent, nilpotent_sum_of, hom-zeros}
-use Rattle.local_modules.proofs.ApartSums.{diagonal_iso}
+use Rattle.local_modules.proofs.ApartSums.{apart_nilpotent, diagonal_iso}
 use Rattle.local_modules.proofs.DecidedSpaces.{Spanning, spanning_rows}
 
 module _ {q : Gf} {Q : Quiver} (n : ℕ) (Y : ℕ → Rep q Q) where
@@ -72,37 +72,40 @@ module _ {q : Gf} {Q : Quiver} (n : ℕ) (Y : ℕ → Rep q Q) where
   unfoldable pub radical_exponent : ℕ
   radical_exponent = total Q.vertices S.dim
 
-  module _ (L : (k : ℕ) → k < n → IsLocal (Y k)) (apart : ArePairwiseApart n Y) where
+  module _ (C : AreLocalAndApart n Y) where
+    L : (k : ℕ) → k < n → IsLocal (Y k)
+    L = C.local
+
     -- ---- the radical is an ideal
 
-    pub radical_zero : IsRadical n Y (zero_hom S S)
+    pub radical_zero : IsRadical C (zero_hom S S)
     radical_zero k l = subst IsNilpotent (sym (part_zero k k)) (zero_nilpotent (Y k))
 
-    pub radical_sum : (x y : Hom S S) → IsRadical n Y x → IsRadical n Y y → IsRadical n Y (x ⊕ y)
+    pub radical_sum : (x y : Hom S S) → IsRadical C x → IsRadical C y → IsRadical C (x ⊕ y)
     radical_sum x y r s k l = subst IsNilpotent (sym (part_sum x y k k)) (nilpotent_sum (L k l) (part n Y x k k) (part n Y y k k) (r k l) (s k l))
 
-    pub radical_multiple : (c : ℕ) (x : Hom S S) → IsRadical n Y x → IsRadical n Y (multiple c x)
+    pub radical_multiple : (c : ℕ) (x : Hom S S) → IsRadical C x → IsRadical C (multiple c x)
     radical_multiple c x r k l = subst IsNilpotent (sym (part_multiple c x k k)) (nilpotent_multiple (L k l) c (part n Y x k k) (r k l))
 
-    pub radical_after : (x y : Hom S S) → IsRadical n Y x → IsRadical n Y (x ≫ y)
+    pub radical_after : (x y : Hom S S) → IsRadical C x → IsRadical C (x ≫ y)
     radical_after x y r k l = subst IsNilpotent (sym (part_composite x y k k)) (nilpotent_sum_of (L k l) n (λ j. part n Y x k j ≫ part n Y y j k) term)
       where
         term : (j : ℕ) → j < n → IsNilpotent (part n Y x k j ≫ part n Y y j k)
         term j m = elim (cases_eq k j) [
           | inl e ↦ subst (λ i. IsNilpotent (part n Y x k i ≫ part n Y y i k)) e (nilpotent_after (L k l) (part n Y x k k) (part n Y y k k) (r k l))
-          | inr d ↦ apart k j l m d (part n Y x k j) (part n Y y j k)
+          | inr d ↦ apart_nilpotent n Y C k j l m d (part n Y x k j) (part n Y y j k)
         ]
 
-    pub radical_before : (y x : Hom S S) → IsRadical n Y x → IsRadical n Y (y ≫ x)
+    pub radical_before : (y x : Hom S S) → IsRadical C x → IsRadical C (y ≫ x)
     radical_before y x r k l = subst IsNilpotent (sym (part_composite y x k k)) (nilpotent_sum_of (L k l) n (λ j. part n Y y k j ≫ part n Y x j k) term)
       where
         term : (j : ℕ) → j < n → IsNilpotent (part n Y y k j ≫ part n Y x j k)
         term j m = elim (cases_eq k j) [
           | inl e ↦ subst (λ i. IsNilpotent (part n Y y k i ≫ part n Y x i k)) e (nilpotent_before (L k l) (part n Y y k k) (part n Y x k k) (r k l))
-          | inr d ↦ apart k j l m d (part n Y y k j) (part n Y x j k)
+          | inr d ↦ apart_nilpotent n Y C k j l m d (part n Y y k j) (part n Y x j k)
         ]
 
-    decide_radical : (x : Hom S S) → IsRadical n Y x ⊎ (IsRadical n Y x → ⊥)
+    decide_radical : (x : Hom S S) → IsRadical C x ⊎ (IsRadical C x → ⊥)
     decide_radical x = elim (search_or_all n (λ k. (k < n) × IsIso (part n Y x k k)) (λ k. k < n → IsNilpotent (part n Y x k k)) decide_part) [
       | inl found ↦ inr (λ r. never_both (L found.0 found.1) (part n Y x found.0 found.0) (r found.0 found.1) found.2.1)
       | inr all ↦ inl (λ k l. all k l l)
@@ -115,10 +118,37 @@ module _ {q : Gf} {Q : Quiver} (n : ℕ) (Y : ℕ → Rep q Q) where
         ]
 
     -- the identity less a member is an isomorphism
-    pub identity_minus_radical : (x : Hom S S) → IsRadical n Y x → IsIso (identity S ⊕ negative_hom x)
-    identity_minus_radical x r = diagonal_iso n Y L apart (identity S ⊕ negative_hom x) (λ k l. subst IsIso
+    pub identity_minus_radical : (x : Hom S S) → IsRadical C x → IsIso (identity S ⊕ negative_hom x)
+    identity_minus_radical x r = diagonal_iso n Y C (identity S ⊕ negative_hom x) (λ k l. subst IsIso
         (sym (part_sum (identity S) (negative_hom x) k k ∙ ap₂ (λ a b. a ⊕ b) (part_identity k l) (part_negative x k k)))
         (iso_minus_nilpotent (L k l) (identity (Y k)) (part n Y x k k) (iso_identity (Y k)) (r k l)))
+
+    -- and each x is a member for which the identity less x ≫ y is an isomorphism whatever y is
+    module _ (x : Hom S S) (inverts : (y : Hom S S) → IsIso (identity S ⊕ negative_hom (x ≫ y))) (k : ℕ) (l : k < n) (i : IsIso (part n Y x k k)) where
+      abbrev back : Hom S S
+      back = family_out n Y k ≫ (i.inverse ≫ family_in n Y k)
+
+      fixed : family_in n Y k ≫ (x ≫ back) ≡ family_in n Y k
+      fixed =
+          sym (compose_assoc (family_in n Y k) x back) ∙ sym (compose_assoc (family_in n Y k ≫ x) (family_out n Y k) (i.inverse ≫ family_in n Y k))
+          ∙ sym (compose_assoc (part n Y x k k) i.inverse (family_in n Y k)) ∙ ap (λ z. z ≫ family_in n Y k) i.right ∙ identity_compose (family_in n Y k)
+
+      none : family_in n Y k ≫ (identity S ⊕ negative_hom (x ≫ back)) ≡ zero_hom (Y k) S
+      none =
+          compose_sum (family_in n Y k) (identity S) (negative_hom (x ≫ back))
+          ∙ ap₂ (λ a b. a ⊕ b) (compose_identity (family_in n Y k)) (compose_negative (family_in n Y k) (x ≫ back) ∙ ap negative_hom fixed) ∙ sum_negative (family_in n Y k)
+
+      gone : family_in n Y k ≡ zero_hom (Y k) S
+      gone =
+          let j = inverts back in
+          sym (compose_identity (family_in n Y k)) ∙ ap (λ z. family_in n Y k ≫ z) (sym j.right)
+          ∙ sym (compose_assoc (family_in n Y k) (identity S ⊕ negative_hom (x ≫ back)) j.inverse) ∙ ap (λ z. z ≫ j.inverse) none ∙ zero_compose (Y k) j.inverse
+
+      no_part_iso : ⊥
+      no_part_iso = identity_not_zero (L k l).vertex (L k l).nonzero (sym (in-out n Y k l) ∙ ap (λ z. z ≫ family_out n Y k) gone ∙ zero_compose (Y k) (family_out n Y k))
+
+    pub radical_of_inverses : (x : Hom S S) → ((y : Hom S S) → IsIso (identity S ⊕ negative_hom (x ≫ y))) → IsRadical C x
+    radical_of_inverses x inverts k l = elim ((L k l).decides (part n Y x k k)) [ inl i ↦ absurd (no_part_iso x inverts k l i) | inr z ↦ z ]
 
     -- ---- and a power of it is zero
 
@@ -126,12 +156,12 @@ module _ {q : Gf} {Q : Quiver} (n : ℕ) (Y : ℕ → Rep q Q) where
     B = hom_basis S S
 
     abbrev Member : Row q B.size → Type 0
-    Member c = IsRadical n Y (B.hom c)
+    Member c = IsRadical C (B.hom c)
 
     R : Spanning Member
-    R = spanning_rows Member (subst (IsRadical n Y) (sym (hom-zeros B)) radical_zero)
-        (λ x y r s. subst (IsRadical n Y) (sym (hom_sum B x y)) (radical_sum (B.hom x) (B.hom y) r s))
-        (λ c x r. subst (IsRadical n Y) (sym (hom_scale B c x)) (radical_multiple c (B.hom x) r))
+    R = spanning_rows Member (subst (IsRadical C) (sym (hom-zeros B)) radical_zero)
+        (λ x y r s. subst (IsRadical C) (sym (hom_sum B x y)) (radical_sum (B.hom x) (B.hom y) r s))
+        (λ c x r. subst (IsRadical C) (sym (hom_scale B c x)) (radical_multiple c (B.hom x) r))
         (λ x. decide_radical (B.hom x))
 
     module _ (v : ℕ) where
@@ -149,15 +179,15 @@ module _ {q : Gf} {Q : Quiver} (n : ℕ) (Y : ℕ → Rep q Q) where
       unfolding matrices
       combination c = sym (linear_combine (λ (c : Row q B.size). (B.hom c).at v) at_v_linear R.size c (λ i. row i R.rows))
 
-      member_at : (x : Hom S S) → IsRadical n Y x → IsCombination R.size matrices (x.at v)
+      member_at : (x : Hom S S) → IsRadical C x → IsCombination R.size matrices (x.at v)
       member_at x r =
-          let s = R.spans (coordinates B x) (subst (IsRadical n Y) (sym (hom-coordinates B x)) r) in
+          let s = R.spans (coordinates B x) (subst (IsRadical C) (sym (hom-coordinates B x)) r) in
           record {
             coefficients = s.by.at 0;
             is = combination (s.by.at 0) ∙ ap (λ c. (B.hom c).at v) (sym (mul_rows s.by R.rows) ∙ s.is) ∙ same-at (hom-coordinates B x) v;
           }
 
-      row_member : (i : ℕ) → IsRadical n Y (B.hom (row i R.rows))
+      row_member : (i : ℕ) → IsRadical C (B.hom (row i R.rows))
       row_member i =
           let s = row_in_span R.rows R.rows i (in_span_self R.rows) in
           subst Member s.is (R.inside s.by)
@@ -168,7 +198,7 @@ module _ {q : Gf} {Q : Quiver} (n : ℕ) (Y : ℕ → Rep q Q) where
           (member_at (B.hom (row i R.rows) ≫ B.hom (row j R.rows)) (radical_after (B.hom (row i R.rows)) (B.hom (row j R.rows)) (row_member i)))
 
       -- no member fixes a row that is not zero
-      none_fixed : (f : HasFixedRow R.size matrices) → (x : Hom S S) → IsRadical n Y x → x.at v ≡ f.element → ⊥
+      none_fixed : (f : HasFixedRow R.size matrices) → (x : Hom S S) → IsRadical C x → x.at v ≡ f.element → ⊥
       none_fixed f x r e = zeros_not_one q (sym (zeros_mul f.functional) ∙ ap (λ z. z · f.functional) (sym gone) ∙ f.nonzero)
         where
           i : IsIso (identity S ⊕ negative_hom x)
@@ -200,14 +230,14 @@ module _ {q : Gf} {Q : Quiver} (n : ℕ) (Y : ℕ → Rep q Q) where
       composite_at h zero = identity-at S v
       composite_at h (suc k) = compose-at (composite_of h k) (h k) v ∙ ap (λ z. z · (h k).at v) (composite_at h k)
 
-      vanish_at : (h : ℕ → Hom S S) → ((i : ℕ) → i < S.dim v → IsRadical n Y (h i)) → (composite_of h (S.dim v)).at v ≡ zeros q (S.dim v) (S.dim v)
+      vanish_at : (h : ℕ → Hom S S) → ((i : ℕ) → i < S.dim v → IsRadical C (h i)) → (composite_of h (S.dim v)).at v ≡ zeros q (S.dim v) (S.dim v)
       vanish_at h r = composite_at h (S.dim v) ∙ elim (nil_or_fixed R.size matrices closed) [
         | inl z ↦ z (λ i. (h i).at v) (λ i l. member_at (h i) (r i l))
         | inr f ↦ absurd (fixed_impossible f)
       ]
 
       -- more factors
-      vanish_more : (k : ℕ) (h : ℕ → Hom S S) → ((i : ℕ) → i < S.dim v + k → IsRadical n Y (h i)) → (composite_of h (S.dim v + k)).at v ≡ zeros q (S.dim v) (S.dim v)
+      vanish_more : (k : ℕ) (h : ℕ → Hom S S) → ((i : ℕ) → i < S.dim v + k → IsRadical C (h i)) → (composite_of h (S.dim v + k)).at v ≡ zeros q (S.dim v) (S.dim v)
       unfolding composite_of
       vanish_more zero h r = let e : S.dim v + 0 ≡ S.dim v = omega arith in ap (λ m. (composite_of h m).at v) e ∙ vanish_at h (λ i l. r i (omega (arith, l)))
       vanish_more (suc k) h r =
@@ -216,7 +246,7 @@ module _ {q : Gf} {Q : Quiver} (n : ℕ) (Y : ℕ → Rep q Q) where
           ∙ ap (λ z. z · (h (S.dim v + k)).at v) (vanish_more k h (λ i l. r i (omega (arith, l)))) ∙ zeros_mul ((h (S.dim v + k)).at v)
 
     -- Each product of so many members is zero.
-    pub radical_power : (h : ℕ → Hom S S) → ((i : ℕ) → i < radical_exponent → IsRadical n Y (h i)) → composite_of h radical_exponent ≡ zero_hom S S
+    pub radical_power : (h : ℕ → Hom S S) → ((i : ℕ) → i < radical_exponent → IsRadical C (h i)) → composite_of h radical_exponent ≡ zero_hom S S
     unfolding radical_exponent
     radical_power h r = Hom-eq _ _ (λ v. elim (cases_lt v Q.vertices) [
       | inl l ↦
@@ -227,12 +257,12 @@ module _ {q : Gf} {Q : Quiver} (n : ℕ) (Y : ℕ → Rep q Q) where
       | inr past ↦ subst (λ d. (a b : Mat q d d) → a ≡ b) (sym (S.past v past)) no_rows ((composite_of h (total Q.vertices S.dim)).at v) ((zero_hom S S).at v)
     ])
 
-    pub radical_vanishes : (m : ℕ) × ((h : ℕ → Hom S S) → ((i : ℕ) → i < m → IsRadical n Y (h i)) → composite_of h m ≡ zero_hom S S)
+    pub radical_vanishes : (m : ℕ) × ((h : ℕ → Hom S S) → ((i : ℕ) → i < m → IsRadical C (h i)) → composite_of h m ≡ zero_hom S S)
     radical_vanishes = (radical_exponent, radical_power)
 
 -- Local modules are pairwise apart where no two of them are isomorphic.
-pub pairwise_apart : {q : Gf} {Q : Quiver} (n : ℕ) (Y : ℕ → Rep q Q) → ((k : ℕ) → k < n → IsLocal (Y k)) → ((k l : ℕ) → k < n → l < n → k ≢ l → Isomorphic (Y k) (Y l) → ⊥) → ArePairwiseApart n Y
-pairwise_apart n Y L other k l a b d f g = elim ((L k a).decides (f ≫ g)) [
-  | inl i ↦ absurd (other k l a b d (record { forth = f; iso = (both_iso (L k a) (L l b) f g i).0 }))
-  | inr z ↦ z
-]
+pub pairwise_apart : {q : Gf} {Q : Quiver} (n : ℕ) (Y : ℕ → Rep q Q) → ((k : ℕ) → k < n → IsLocal (Y k)) → ((k l : ℕ) → k < n → l < n → k ≢ l → Isomorphic (Y k) (Y l) → ⊥) → AreLocalAndApart n Y
+pairwise_apart n Y L other = record {
+  local = L;
+  apart = λ k l a b d f g i. other k l a b d (record { forth = f; iso = (both_iso (L k a) (L l b) f g i).0 });
+}

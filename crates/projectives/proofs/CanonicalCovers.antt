@@ -45,7 +45,7 @@ module _ {q : Gf} (A : BoundQuiver) (W : Words q A.quiver) (B : IsWordBasis A W)
     unfolding canonical_cover basis_row
     canonical_cover-value j h = generator-from_rows A W B (length (canonical_vertices X)) (vertex_in (canonical_vertices X)) X M basis_row j h
 
-    pub canonical_cover_minimal : IsMinimalCover canonical_cover
+    pub canonical_cover_minimal : IsMinimalCover A W B (length (canonical_vertices X)) (vertex_in (canonical_vertices X)) canonical_cover
     canonical_cover_minimal = record {
       onto = epi_of_spans A W B (length (canonical_vertices X)) (vertex_in (canonical_vertices X)) X canonical_cover M
           (spans_same X (length (canonical_vertices X)) (vertex_in (canonical_vertices X)) _ _ (λ j h. sym (canonical_cover-value j h))

@@ -61,7 +61,7 @@ iso_of_composites {X = X} {Y = Y} h k i j = record { inverse = k ≫ i.inverse; 
     left = ap (λ z. z ≫ h) (sym same) ∙ other
 
 module _ {q : Gf} (A : BoundQuiver) (W : Words q A.quiver) (B : IsWordBasis A W) (k l : ℕ) (v u : ℕ → ℕ) (X : Rep q A.quiver) (M : IsMod A X)
-    (f : Hom (projectives W k v) X) (g : Hom (projectives W l u) X) (c : IsMinimalCover f) (d : IsMinimalCover g) where
+    (f : Hom (projectives W k v) X) (g : Hom (projectives W l u) X) (c : IsMinimalCover A W B k v f) (d : IsMinimalCover A W B l u g) where
   pub covers_isomorphic : (h : Hom (projectives W k v) (projectives W l u)) × IsIso h × (h ≫ g ≡ f)
   covers_isomorphic =
       let h = projectives_lift A W B k v (projectives W l u) X (projectives_mod A W B l u) M g d.onto f in

@@ -60,7 +60,7 @@ module _ (q : Gf) where
   loop_modules : (v : ℕ) → IsMod loop_algebra (projective (loop_words q) v)
   unfolding value_of_relation combine zeros
   loop_modules v = record {
-    relations = λ i. refl;
+    relations = λ i h. refl;
     long_paths = λ p e. Mat-eq_below _ _ (λ i j h l.
         bounded v p e i j l);
   }
@@ -213,7 +213,7 @@ two_arrows X (then a p) e =
 module _ (q : Gf) where
   kronecker_modules : (v : ℕ) → IsMod kronecker_algebra (projective (kronecker_words q) v)
   unfolding value_of_relation combine
-  kronecker_modules v = record { relations = λ i. refl; long_paths = λ p e. two_arrows (projective (kronecker_words q) v) p e }
+  kronecker_modules v = record { relations = λ i h. refl; long_paths = λ p e. two_arrows (projective (kronecker_words q) v) p e }
 
   module _ (X : Rep q kronecker_quiver) where
     along_first : along_word (kronecker_words q) X 0 0 0 ≡ one q (X.dim 0)

@@ -4,14 +4,14 @@ use Rattle.std.proofs.Math.Path.{subst_refl, path_j}
 use Rattle.linear_algebra.specs.Field.{Gf}
 use Rattle.linear_algebra.specs.Matrix.{◌·◌}
 use Rattle.linear_algebra.specs.Parts.{unit}
-use Rattle.representations.specs.Quiver.{BoundQuiver, opposite_algebra}
+use Rattle.representations.specs.Quiver.{BoundQuiver, opposite_algebra, with_relations}
 use Rattle.representations.specs.Rep.{Rep, IsMod}
 use Rattle.representations.specs.Dual.{dual}
 use Rattle.representations.proofs.Duals.{IsMod-dual}
 use Rattle.projectives.specs.Words.{Words, IsWordBasis, projective}
 use Rattle.projectives.specs.Projective.{generator}
 use Rattle.projectives.specs.Families.{family_in, generator_of}
-use Rattle.projectives.specs.TwoSided.{TwoSided, other, swap, with_relations, with_paths, relations_back, paths_back, basis_back}
+use Rattle.projectives.specs.TwoSided.{TwoSided, other, swap, with_paths, relations_back, paths_back, basis_back}
 
 place-relations : {q : Gf} (A : BoundQuiver) (W : Words q A.quiver) (B : IsWordBasis A W) → (subst (λ r. IsWordBasis (with_relations A r) W) (relations_back A) B).place ≡ B.place
 place-relations A W B =

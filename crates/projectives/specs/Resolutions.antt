@@ -21,7 +21,8 @@ pub record ProjectiveSequence {q : Gf} {Q : Quiver} (W : Words q Q) (M : Rep q Q
   pub differential : (n : ℕ) → Hom (projectives_at W (term n)) (target W M term n)
 
 -- A minimal projective resolution of M up to place k (at k = 1 a minimal projective presentation): sums of projective modules at vertices of the
--- quiver, onto M, exact, and each kernel in the radical. What stands at later places is not asked.
+-- quiver, onto M, exact, and each kernel in the radical. What stands at later places is not asked. The sums are projective where the words W are a
+-- basis of the algebra (`IsWordBasis`), as everywhere where this is used.
 pub record IsMinimalResolution {q : Gf} {Q : Quiver} (W : Words q Q) (M : Rep q Q) (R : ProjectiveSequence W M) (k : ℕ) : Type 0 where
   pub declared : (n : ℕ) → n ≤ k → (j : ℕ) → j < length (R.term n) → vertex_in (R.term n) j < Q.vertices
   pub onto : IsEpi (R.differential zero)

@@ -4,7 +4,7 @@ use Rattle.std.specs.Prelude.{ℕ, zero, ◌<◌, ◌≤◌, ◌≡◌}
 use Rattle.std.proofs.Common.{sym, subst}
 use Rattle.linear_algebra.specs.Field.{Gf}
 use Rattle.linear_algebra.specs.Matrix.{Mat}
-use Rattle.representations.specs.Quiver.{Quiver, Path, Relation, opposite, reverse, BoundQuiver, opposite_relation, opposite_algebra}
+use Rattle.representations.specs.Quiver.{Quiver, Path, opposite, reverse, BoundQuiver, with_relations, opposite_relation, opposite_algebra}
 use Rattle.representations.proofs.Duals.{reverse_reverse}
 use Rattle.projectives.specs.Words.{Words, IsWordBasis}
 
@@ -25,10 +25,7 @@ pub record TwoSided (q : Gf) (A : BoundQuiver) : Type 0 where
 abbrev pub other : {q : Gf} {A : BoundQuiver} → TwoSided q A → Words q (opposite A.quiver)
 other T = reversed T.words T.before T.none
 
--- The algebra with other relations, and words with other paths.
-abbrev pub with_relations : (A : BoundQuiver) → (ℕ → Relation A.quiver) → BoundQuiver
-with_relations A r = record { quiver = A.quiver; relations = A.relations; relation = r; bound = A.bound }
-
+-- Words with other paths.
 abbrev pub with_paths : {q : Gf} {Q : Quiver} (W : Words q Q) → ((v w i : ℕ) → i < W.count v w → Path Q v w) → Words q Q
 with_paths W p = record { count = W.count; word = p; act = W.act; past = W.past }
 

@@ -1,6 +1,6 @@
 //! The laws of minimal covers by projective modules. Chapters are those of Assem, Simson, Skowroński, volume 1.
 
-ghost use Rattle.std.specs.Prelude.{◌≡◌, ◌<◌, ◌+◌, ℕ};
+ghost use Rattle.std.specs.Prelude.{◌≡◌, ◌<◌, ◌+◌, ℕ, length};
 ghost use Rattle.linear_algebra.specs.Field.{Gf};
 ghost use Rattle.linear_algebra.specs.Matrix.{Row, ◌·◌};
 ghost use Rattle.representations.specs.Quiver.{BoundQuiver};
@@ -16,7 +16,7 @@ ghost use Rattle.projectives.specs.Covers.{KernelInRadical, IsMinimalCover};
 ghost use Rattle.projectives.specs.HomRows.{value};
 ghost use Rattle.projectives.specs.Canonical.{canonical_vertices};
 ghost use Rattle.projectives.specs.ReducedSubmodule.{whole};
-ghost use Rattle.projectives.specs.CanonicalCover.{projectives_at, IsCanonicalCover};
+ghost use Rattle.projectives.specs.CanonicalCover.{vertex_in, projectives_at, IsCanonicalCover};
 
 /// The radical of a projective module: a row of a sum of projective modules at vertices lies in the radical exactly where its
 /// coefficients at the trivial words are zero. So the generators are a basis modulo the radical. (Chapter III, 2.4.)
@@ -72,14 +72,15 @@ pub fn kernel_cover_criterion()
 pub fn each_has_minimal_cover()
     ensures { (q : Gf) (A : BoundQuiver) (W : Words q A.quiver) (B : IsWordBasis A W) (X : Rep q A.quiver)
         → IsMod A X → (f : Hom (projectives_at W (canonical_vertices X)) X)
-        × IsMinimalCover f × IsCanonicalCover A W B (whole X) (canonical_vertices X) f }
+        × IsMinimalCover A W B (length (canonical_vertices X)) (vertex_in (canonical_vertices X)) f
+        × IsCanonicalCover A W B (whole X) (canonical_vertices X) f }
 {}
 
 /// A minimal cover of a module has as many generators at each vertex as the module modulo its radical has dimensions there.
 /// (Chapter I, 5, and III, 2.)
 pub fn number_of_generators()
     ensures { (q : Gf) (A : BoundQuiver) (W : Words q A.quiver) (B : IsWordBasis A W) (k : ℕ) (v : ℕ → ℕ)
-        (X : Rep q A.quiver) (f : Hom (projectives W k v) X) → IsMinimalCover f
+        (X : Rep q A.quiver) (f : Hom (projectives W k v) X) → IsMinimalCover A W B k v f
         → (w : ℕ) → w < A.quiver.vertices → count_at k v w + (radical X).size w ≡ X.dim w }
 {}
 
@@ -89,6 +90,6 @@ pub fn minimal_cover_is_unique()
     ensures { (q : Gf) (A : BoundQuiver) (W : Words q A.quiver) (B : IsWordBasis A W) (k l : ℕ) (v u : ℕ → ℕ)
         (X : Rep q A.quiver)
         → IsMod A X → (f : Hom (projectives W k v) X) (g : Hom (projectives W l u) X)
-        → IsMinimalCover f → IsMinimalCover g
+        → IsMinimalCover A W B k v f → IsMinimalCover A W B l u g
         → (h : Hom (projectives W k v) (projectives W l u)) × IsIso h × (h ≫ g ≡ f) }
 {}

@@ -97,8 +97,8 @@ module _ {q : Gf} {Q : Quiver} where
 pub IsMod-dual : {q : Gf} (A : BoundQuiver) (X : Rep q A.quiver) → IsMod A X → IsMod (opposite_algebra A) (dual X)
 unfolding value_of_relation
 IsMod-dual {q} A X M = record {
-  relations = λ i.
-      combine-reverse X (A.relation i).terms (A.relation i).coefficient (A.relation i).path ∙ ap transpose (M.relations i)
+  relations = λ i h.
+      combine-reverse X (A.relation i).terms (A.relation i).coefficient (A.relation i).path ∙ ap transpose (M.relations i h)
       ∙ transpose_zeros q (X.dim (A.relation i).from) (X.dim (A.relation i).to);
   long_paths = λ {v} {w} p h.
       ap (along (dual X)) (sym (reverse_reverse p)) ∙ along-reverse X (reverse p)

@@ -1,5 +1,5 @@
 -- Matrices of paths: homomorphisms go with them.
-use Rattle.std.proofs.Common.{ℕ, ◌≡◌, refl, sym, ap, ◌∙◌}
+use Rattle.std.proofs.Common.{ℕ, ◌<◌, ◌≡◌, refl, sym, ap, ◌∙◌, subst}
 use Rattle.linear_algebra.specs.Field.{Gf}
 use Rattle.linear_algebra.specs.Matrix.{Mat, zeros, one, ◌·◌}
 use Rattle.linear_algebra.proofs.MatrixLaws.{mul_zeros, zeros_mul, mul_one_mat, one_mul_mat, mul_assoc_mat}
@@ -8,7 +8,7 @@ use Rattle.linear_algebra.proofs.Families.{mul_combine, combine_mul}
 use Rattle.linear_algebra.proofs.LinearMaps.{combine-same_members}
 use Rattle.linear_algebra.proofs.Solving.{injective_right_inverse, right_inverse_injective, surjective_left_inverse, left_inverse_cancels}
 use Rattle.representations.specs.Module.{IsMono, IsEpi}
-use Rattle.representations.specs.Quiver.{Quiver, Path, trivial, then, path_join, path_after, arrow_path, Relation, BoundQuiver}
+use Rattle.representations.specs.Quiver.{Quiver, Path, trivial, then, path_join, path_after, arrow_path, Relation, BoundQuiver, with_relations}
 use Rattle.representations.specs.Rep.{Rep, along, value_of_relation, IsMod}
 use Rattle.representations.specs.Hom.{Hom}
 
@@ -51,8 +51,8 @@ module _ {q : Gf} {Q : Quiver} {X Y : Rep q Q} (f : Hom X Y) where
 module _ {q : Gf} (A : BoundQuiver) {X Y : Rep q A.quiver} (f : Hom X Y) where
   pub IsMod-mono : IsMono f → IsMod A Y → IsMod A X
   IsMod-mono mono M = record {
-    relations = λ i. cancel (A.relation i).from (A.relation i).to (value_of_relation X (A.relation i))
-        (relation-hom f (A.relation i) ∙ ap (λ z. f.at (A.relation i).from · z) (M.relations i) ∙ mul_zeros (f.at (A.relation i).from));
+    relations = λ i h. cancel (A.relation i).from (A.relation i).to (value_of_relation X (A.relation i))
+        (relation-hom f (A.relation i) ∙ ap (λ z. f.at (A.relation i).from · z) (M.relations i h) ∙ mul_zeros (f.at (A.relation i).from));
     long_paths = λ {v} {w} p h. cancel v w (along X p) (along-hom f p ∙ ap (λ z. f.at v · z) (M.long_paths p h) ∙ mul_zeros (f.at v));
   }
     where
@@ -61,10 +61,17 @@ module _ {q : Gf} (A : BoundQuiver) {X Y : Rep q A.quiver} (f : Hom X Y) where
 
   pub IsMod-epi : IsEpi f → IsMod A X → IsMod A Y
   IsMod-epi epi M = record {
-    relations = λ i. cancel (A.relation i).from (A.relation i).to (value_of_relation Y (A.relation i))
-        (sym (relation-hom f (A.relation i)) ∙ ap (λ z. z · f.at (A.relation i).to) (M.relations i) ∙ zeros_mul (f.at (A.relation i).to));
+    relations = λ i h. cancel (A.relation i).from (A.relation i).to (value_of_relation Y (A.relation i))
+        (sym (relation-hom f (A.relation i)) ∙ ap (λ z. z · f.at (A.relation i).to) (M.relations i h) ∙ zeros_mul (f.at (A.relation i).to));
     long_paths = λ {v} {w} p h. cancel v w (along Y p) (sym (along-hom f p) ∙ ap (λ z. z · f.at w) (M.long_paths p h) ∙ zeros_mul (f.at w));
   }
     where
       cancel : (v w : ℕ) (y : Mat q (Y.dim v) (Y.dim w)) → f.at v · y ≡ zeros q (X.dim v) (Y.dim w) → y ≡ zeros q (Y.dim v) (Y.dim w)
       cancel v w y e = left_inverse_cancels (f.at v) (surjective_left_inverse (f.at v) (epi v)) y (zeros q (Y.dim v) (Y.dim w)) (e ∙ sym (mul_zeros (f.at v)))
+
+-- Modules over an algebra are modules over each one with the same relations below the count.
+pub IsMod-written : {q : Gf} (A : BoundQuiver) (r : ℕ → Relation A.quiver) → ((i : ℕ) → i < A.relations → A.relation i ≡ r i) → (X : Rep q A.quiver) → IsMod A X → IsMod (with_relations A r) X
+IsMod-written {q} A r same X M = record {
+  relations = λ i h. subst (λ r. value_of_relation X r ≡ zeros q (X.dim r.from) (X.dim r.to)) (same i h) (M.relations i h);
+  long_paths = M.long_paths;
+}

@@ -96,14 +96,14 @@ module _ {q : Gf} (A : BoundQuiver) where
   pub IsMod-sum : (X Y : Rep q A.quiver) → IsMod A X → IsMod A Y → IsMod A (sum_rep X Y)
   unfolding value_of_relation
   IsMod-sum X Y M N = record {
-    relations = λ i.
+    relations = λ i h.
         combine-sum_rep X Y (A.relation i).terms (A.relation i).coefficient (A.relation i).path
-        ∙ ap₂ diagonal (M.relations i) (N.relations i) ∙ diagonal_zeros q _ _ _ _;
+        ∙ ap₂ diagonal (M.relations i h) (N.relations i h) ∙ diagonal_zeros q _ _ _ _;
     long_paths = λ p h. along-sum X Y p ∙ ap₂ diagonal (M.long_paths p h) (N.long_paths p h) ∙ diagonal_zeros q _ _ _ _;
   }
 
   pub IsMod-zero : IsMod A (zero_rep q A.quiver)
-  IsMod-zero = record { relations = λ i. no_rows _ _; long_paths = λ p h. no_rows _ _ }
+  IsMod-zero = record { relations = λ i h. no_rows _ _; long_paths = λ p h. no_rows _ _ }
 
   pub IsMod-family : (k : ℕ) (X : ℕ → Rep q A.quiver) → ((i : ℕ) → i < k → IsMod A (X i)) → IsMod A (sum_family k X)
   unfolding sum_family

@@ -57,12 +57,16 @@ pub record Relation (Q : Quiver) : Type 0 where
   pub path : ℕ → Path Q from to
 
 -- A finite-dimensional algebra, given by a quiver, relations, and a bound: the quotient of the path algebra by the ideal that the relations
--- and all paths of the bound's length generate.
+-- relation 0, .., relation (relations − 1) and all paths of the bound's length generate. What `relation` is from the count on says nothing.
 pub record BoundQuiver : Type 0 where
   pub quiver : Quiver
   pub relations : ℕ
   pub relation : ℕ → Relation quiver
   pub bound : ℕ
+
+-- The algebra with other relations.
+abbrev pub with_relations : (A : BoundQuiver) → (ℕ → Relation A.quiver) → BoundQuiver
+with_relations A r = record { quiver = A.quiver; relations = A.relations; relation = r; bound = A.bound }
 
 -- The opposite algebra.
 abbrev pub opposite_relation : {Q : Quiver} → Relation Q → Relation (opposite Q)

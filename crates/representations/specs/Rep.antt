@@ -1,5 +1,5 @@
 -- Representations of a quiver. (Assem, Simson, Skowroński, volume 1, chapter III, 1.)
-use Rattle.std.specs.Prelude.{ℕ, zero, ◌≤◌, ◌≡◌}
+use Rattle.std.specs.Prelude.{ℕ, zero, ◌<◌, ◌≤◌, ◌≡◌}
 use Rattle.linear_algebra.specs.Field.{Gf}
 use Rattle.linear_algebra.specs.Matrix.{Mat, zeros, one, ◌·◌}
 use Rattle.linear_algebra.specs.Families.{combine}
@@ -21,7 +21,7 @@ along X (then a p) = along X p · X.mat a
 unfoldable pub value_of_relation : {q : Gf} {Q : Quiver} (X : Rep q Q) (r : Relation Q) → Mat q (X.dim r.from) (X.dim r.to)
 value_of_relation X r = combine r.terms r.coefficient (λ i. along X (r.path i))
 
--- X is a module over the algebra: its relations act as zero, and so do all paths of the bound's length.
+-- X is a module over the algebra: its relations, those below the count, act as zero, and so do all paths of the bound's length.
 pub record IsMod {q : Gf} (A : BoundQuiver) (X : Rep q A.quiver) : Type 0 where
-  pub relations : (i : ℕ) → value_of_relation X (A.relation i) ≡ zeros q (X.dim (A.relation i).from) (X.dim (A.relation i).to)
+  pub relations : (i : ℕ) → i < A.relations → value_of_relation X (A.relation i) ≡ zeros q (X.dim (A.relation i).from) (X.dim (A.relation i).to)
   pub long_paths : {v w : ℕ} (p : Path A.quiver v w) → path_length p ≡ A.bound → along X p ≡ zeros q (X.dim v) (X.dim w)

@@ -1,11 +1,11 @@
 //! The laws of submodules, quotients, kernels, cokernels, images and direct sums. Chapters are those of Assem, Simson, Skowroński,
 //! volume 1.
 
-ghost use Rattle.std.specs.Prelude.{◌≡◌, ℕ, ◌+◌};
+ghost use Rattle.std.specs.Prelude.{◌≡◌, ℕ, ◌+◌, ◌<◌};
 ghost use Rattle.linear_algebra.specs.Field.{Gf};
 ghost use Rattle.linear_algebra.specs.Matrix.{Row, zeros, ◌·◌};
 ghost use Rattle.linear_algebra.specs.Rank.{IsInSpan, RankFactorisation};
-ghost use Rattle.representations.specs.Quiver.{Quiver, BoundQuiver};
+ghost use Rattle.representations.specs.Quiver.{Quiver, Relation, BoundQuiver, with_relations};
 ghost use Rattle.representations.specs.Rep.{Rep, IsMod};
 ghost use Rattle.representations.specs.Hom.{Hom, ◌≫◌, zero_hom};
 ghost use Rattle.representations.specs.Module.{IsMono, IsEpi, IsExact};
@@ -15,7 +15,8 @@ ghost use Rattle.representations.specs.Kernel.{kernel, cokernel, image};
 ghost use Rattle.representations.specs.Sum.{sum_rep, into_first, into_second, onto_first, onto_second, from_sum, into_sum};
 
 /// Whatever has an injection into a module over an algebra is a module over it; whatever a module has a surjection to is one;
-/// so submodules and quotients of modules are modules, and so are direct sums. (Chapter I, 1, and III, 1.)
+/// so submodules and quotients of modules are modules, and so are direct sums. Modules do not see what stands past the last relation.
+/// (Chapter I, 1, and III, 1.)
 pub fn modules()
     ensures injections { (q : Gf) (A : BoundQuiver) (X Y : Rep q A.quiver) (f : Hom X Y) → IsMono f → IsMod A Y
         → IsMod A X }
@@ -27,6 +28,9 @@ pub fn modules()
         → IsMod A (quotient_rep U) }
     ensures sums { (q : Gf) (A : BoundQuiver) (X Y : Rep q A.quiver) → IsMod A X → IsMod A Y
         → IsMod A (sum_rep X Y) }
+    ensures written_relations { (q : Gf) (A : BoundQuiver) (r : ℕ → Relation A.quiver)
+        → ((i : ℕ) → i < A.relations → A.relation i ≡ r i)
+        → (X : Rep q A.quiver) → IsMod A X → IsMod (with_relations A r) X }
 {}
 
 /// Surjections cancel on the left of a composite, injections on the right. (Appendix A, 1.)

@@ -3,4 +3,4 @@ use Rattle.auslander_reiten.proofs.Uniqueness.{sequences_isomorphic}
 use Rattle.auslander_reiten.proofs.sequences.uniqueness.Goals as goal
 
 pub returns : goal.returns
-returns c = λ q A L E M L' E' f g S N f' g' S' N'. sequences_isomorphic A f g S N f' g' S' N'
+returns c = λ q A L E M L' E' f g S f' g' S'. sequences_isomorphic A f g S f' g' S'

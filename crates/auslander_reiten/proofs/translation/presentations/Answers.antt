@@ -2,6 +2,7 @@
 use Rattle.std.proofs.Common.{length}
 use Rattle.projectives.specs.CanonicalCover.{vertex_in}
 use Rattle.auslander_reiten.proofs.AlmostSplitSequences.{resolution, minimal_presentation, presented_or_projective, presented_not_projective}
+use Rattle.auslander_reiten.proofs.TranslateUnique.{presentations_isomorphic}
 use Rattle.auslander_reiten.proofs.translation.presentations.Goals as goal
 
 pub returns-clause-exists : goal.returns-clause-exists
@@ -14,3 +15,6 @@ returns-clause-local c = λ q A T M N l. presented_or_projective T M N l
 
 pub returns-clause-never_both : goal.returns-clause-never_both
 returns-clause-never_both c = λ q A T M D p. presented_not_projective T D p
+
+pub returns-clause-once : goal.returns-clause-once
+returns-clause-once f = λ q A T k v h u l w m z M d c e b p r. presentations_isomorphic T k v h u l w m z M d c e b p r

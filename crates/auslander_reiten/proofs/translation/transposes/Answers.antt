@@ -1,15 +1,19 @@
--- By the cokernel in reduced column form.
-use Rattle.auslander_reiten.proofs.Translates.{transpose_exists, reduced_cokernel_once, transpose_module, transpose_size}
+-- By the cokernel of the transposed of d.
+use Rattle.auslander_reiten.proofs.Translates.{transpose_exists, transpose_by, transposed_cokernel_module, transposed_cokernel_size}
+use Rattle.auslander_reiten.proofs.TranslateUnique.{transposes_isomorphic}
 use Rattle.auslander_reiten.proofs.translation.transposes.Goals as goal
 
 pub returns-clause-exists : goal.returns-clause-exists
-returns-clause-exists c = λ q A T k v h u d. transpose_exists T k v h u d
+returns-clause-exists c = λ q A T M m. transpose_exists T M m
 
-pub returns-clause-once : goal.returns-clause-once
-returns-clause-once c = λ q Q X Y N N' f p r a s b t w. reduced_cokernel_once f p r a s b t w
+pub returns-clause-by_each_presentation : goal.returns-clause-by_each_presentation
+returns-clause-by_each_presentation c = λ q A T k v h u M d e p. transpose_by T k v h u M d e p
 
 pub returns-clause-modules : goal.returns-clause-modules
-returns-clause-modules c = λ q A T k v h u d N p t. transpose_module T k v h u d p t
+returns-clause-modules c = λ q A T k v h u M d e N r t. transposed_cokernel_module T k v h u d r t.cokernel
 
 pub returns-clause-sizes : goal.returns-clause-sizes
-returns-clause-sizes c = λ q A T k v h u d N p t w. transpose_size T k v h u d p t w
+returns-clause-sizes c = λ q A T k v h u M d e N r t w. transposed_cokernel_size T k v h u d r t.cokernel w
+
+pub returns-clause-once : goal.returns-clause-once
+returns-clause-once f = λ q A T k v h u l w m z M d c e b N N' p r s t. transposes_isomorphic T l w m z k v h u M e b d c r p t s

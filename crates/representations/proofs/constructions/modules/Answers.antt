@@ -1,5 +1,5 @@
 -- By cancelling.
-use Rattle.representations.proofs.Paths.{IsMod-mono, IsMod-epi}
+use Rattle.representations.proofs.Paths.{IsMod-mono, IsMod-epi, IsMod-written}
 use Rattle.representations.proofs.Submodules.{IsMod-sub, IsMod-quotient}
 use Rattle.representations.proofs.Sums.{IsMod-sum}
 use Rattle.representations.proofs.constructions.modules.Goals as goal
@@ -18,3 +18,6 @@ returns-clause-quotients c = λ q A X U M. IsMod-quotient A U M
 
 pub returns-clause-sums : goal.returns-clause-sums
 returns-clause-sums c = λ q A X Y M N. IsMod-sum A X Y M N
+
+pub returns-clause-written_relations : goal.returns-clause-written_relations
+returns-clause-written_relations c = λ q A r same X M. IsMod-written A r same X M
