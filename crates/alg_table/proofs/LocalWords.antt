@@ -15,18 +15,18 @@ use Rattle.quiver_paths.specs.PathParts.{IsThenArrow}
 use Rattle.quiver_paths.specs.Quiver.{source}
 use Rattle.quiver_paths.proofs.PathLemmas.{IsPath-same, IsPath-trivial, IsPath-arrow, IsPath-concat, IsFactor-trans, IsFactor-arrows, length-factor, trivial_from_length, ends_with_arrow, length-then_arrow, path_length-concat}
 use Rattle.quiver_paths.proofs.PathOrderLemmas.{path_cmp-Equal}
-use Rattle.alg_table.specs.declared.Header.{Header}
-use Rattle.alg_table.specs.declared.rules.Rule.{Rule}
-use Rattle.alg_table.specs.Allowed.{IsAllowed}
-use Rattle.alg_table.specs.Words.{IsShortPath}
-use Rattle.alg_table.specs.Reduction.{HasNoTip}
-use Rattle.alg_table.specs.BasisClauses.{WordsHold}
-use Rattle.alg_table.specs.Occurring.{arrows_cmp, AreLongTips, EndsInTip, HasTip}
+use Rattle.path_algebra.specs.declared.Header.{Header}
+use Rattle.path_algebra.specs.declared.rules.Rule.{Rule}
+use Rattle.path_algebra.specs.Allowed.{IsAllowed}
+use Rattle.path_algebra.specs.Words.{IsShortPath}
+use Rattle.path_algebra.specs.Reduction.{HasNoTip}
+use Rattle.path_algebra.specs.BasisClauses.{WordsHold}
+use Rattle.path_algebra.specs.Occurring.{arrows_cmp, AreLongTips, EndsInTip, HasTip}
 use Rattle.alg_table.specs.WordChecks.{IsWordAt, HasTrivialWords, IsGrown, GoesOn, GoesOnBy, IsClosed, IsWellPlaced}
-use Rattle.alg_table.proofs.Occurrences.{cases_occurrence}
-use Rattle.alg_table.proofs.Places.{place-less, place-greater}
-use Rattle.alg_table.proofs.TipPlaces.{path_cmp-by_arrows}
-use Rattle.alg_table.proofs.TipFactors.{FoundTip, found_at_end, factor_found, ends_from, in_front, no_tip_if, tip_refuses}
+use Rattle.path_algebra.proofs.Occurrences.{cases_occurrence}
+use Rattle.path_algebra.proofs.Places.{place-less, place-greater}
+use Rattle.path_algebra.proofs.TipPlaces.{path_cmp-by_arrows}
+use Rattle.path_algebra.proofs.TipFactors.{FoundTip, found_at_end, factor_found, ends_from, in_front, no_tip_if, tip_refuses}
 
 -- ---- the search among the words
 

@@ -3,9 +3,9 @@ use Rattle.std.specs.Prelude.{ℕ, ◌≡◌, ◌<◌, ◌+◌, ◌-◌, ◌⊎�
 use Rattle.quiver_paths.specs.declared.Path.{Path}
 use Rattle.quiver_paths.specs.Path.{path_length}
 use Rattle.quiver_paths.specs.Quiver.{vertex_count, arrow_count, source}
-use Rattle.alg_table.specs.declared.Header.{Header}
-use Rattle.alg_table.specs.declared.rules.Rule.{Rule}
-use Rattle.alg_table.specs.Occurring.{EndsInTip}
+use Rattle.path_algebra.specs.declared.Header.{Header}
+use Rattle.path_algebra.specs.declared.rules.Rule.{Rule}
+use Rattle.path_algebra.specs.Occurring.{EndsInTip}
 
 -- one of the words has this start and these arrows
 pub record IsWordAt (words : List Path) (start : ℕ) (arrows : List ℕ) : Type 0 where

@@ -3,18 +3,17 @@ ghost use Rattle.std.specs.Prelude.{ℕ, ◌≡◌, ◌<◌, ◌≤◌, ◌+◌,
 ghost use Rattle.linear_algebra.specs.Field.{order};
 ghost use Rattle.quiver_paths.specs.declared.Path.{Path};
 ghost use Rattle.quiver_paths.specs.Path.{IsPath, path_length};
-ghost use Rattle.alg_table.specs.declared.Term.{Term};
-ghost use Rattle.alg_table.specs.declared.rules.Element.{Element};
-ghost use Rattle.alg_table.specs.declared.rules.Rule.{Rule};
-ghost use Rattle.alg_table.specs.Allowed.{IsAllowed};
-ghost use Rattle.alg_table.specs.Rules.{AreElementTerms};
-ghost use Rattle.alg_table.specs.Derivations.{IsNumber, NamesEarlier, AreSteps, step_elements};
-ghost use Rattle.alg_table.specs.BasisClauses.{StepsHold, RulesHold, RuleHolds, HasFactor};
-ghost use Rattle.alg_table.specs.ElementTerms.{AreTermsOf, AreTermsOfEach, IsRuleOf, negative};
+ghost use Rattle.path_algebra.specs.declared.Term.{Term};
+ghost use Rattle.path_algebra.specs.declared.rules.Element.{Element};
+ghost use Rattle.path_algebra.specs.declared.rules.Rule.{Rule};
+ghost use Rattle.path_algebra.specs.Allowed.{IsAllowed};
+ghost use Rattle.path_algebra.specs.Rules.{AreElementTerms};
+ghost use Rattle.path_algebra.specs.Derivations.{IsNumber, NamesEarlier, AreSteps, step_elements};
+ghost use Rattle.path_algebra.specs.BasisClauses.{StepsHold, RulesHold, RuleHolds, HasFactor};
+ghost use Rattle.path_algebra.specs.ElementTerms.{AreTermsOf, AreTermsOfEach, IsRuleOf, negative};
 
-use crate::derivations::elements_of;
-use crate::{Element, Header, Rule, Step, Term};
 use fp_linear::Field;
+use path_algebra::{Element, Header, Rule, Step, Term, elements_of};
 use std::alloc::{AllocError, Global};
 
 /// Whether each step names what stands before it, and each rule a step.

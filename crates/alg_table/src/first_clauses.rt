@@ -1,13 +1,13 @@
 //! The conditions on a basis that are tried before the action on the words.
 ghost use Rattle.std.specs.Prelude.{IfOk, MatchOption};
-ghost use Rattle.alg_table.specs.Allowed.{IsAllowed};
-ghost use Rattle.alg_table.specs.BasisClauses.{IsBasisClaim, IsFirstFault};
+ghost use Rattle.path_algebra.specs.Allowed.{IsAllowed};
+ghost use Rattle.path_algebra.specs.BasisClauses.{IsBasisClaim, IsFirstFault};
 ghost use Rattle.alg_table.specs.FirstClauses.{MeetsFirstClauses};
 
 use crate::clauses::{rules_hold, steps_hold};
 use crate::reduced::reduced_holds;
 use crate::words::words_hold;
-use crate::{BasisFault, Header, Rule, Step};
+use path_algebra::{BasisFault, Header, Rule, Step};
 use quiver_paths::Path;
 use std::alloc::{AllocError, Global};
 

@@ -1,69 +1,62 @@
-//! What holds of the ideal, of congruence and of normal words. The functions do nothing: their contracts are laws.
-ghost use Rattle.std.specs.Prelude.{◌≡◌, ◌≢◌, ◌<◌, ◌≤◌, ◌⊎◌, ℕ, List, Contains};
-ghost use Rattle.linear_algebra.specs.Field.{add, mul};
+//! What holds of products and of normal forms. The functions do nothing: their contracts are laws.
+ghost use Rattle.std.specs.Prelude.{◌≡◌, ◌<◌, ℕ, List, ◌+◌, ◌*◌, ◌++◌, length};
 ghost use Rattle.quiver_paths.specs.declared.Path.{Path};
-ghost use Rattle.quiver_paths.specs.Path.{Meets, concat, path_length};
-ghost use Rattle.alg_table.specs.declared.Header.{Header};
-ghost use Rattle.alg_table.specs.Elements.{product_between};
-ghost use Rattle.alg_table.specs.Ideals.{IsInIdeal, Congruent};
-ghost use Rattle.alg_table.specs.Allowed.{IsAllowed};
-ghost use Rattle.alg_table.specs.Words.{IsShortPath, IsTip, IsNormal, AreNormalWords, IsBasis};
-ghost use Rattle.alg_table.specs.declared.rules.Rule.{Rule};
-ghost use Rattle.alg_table.specs.declared.rules.Step.{Step};
-ghost use Rattle.alg_table.specs.Rules.{rule_element, AreReducedRules};
-ghost use Rattle.alg_table.specs.Derivations.{AreSteps, step_elements, element_at};
-ghost use Rattle.alg_table.specs.BasisClauses.{StepsHold, IsBasisClaim, MeetsClauses};
+ghost use Rattle.quiver_paths.specs.Path.{IsPath, Leads, concat, path_length, trivial_path, arrow_path};
+ghost use Rattle.linear_algebra.specs.Rows.{unit};
+ghost use Rattle.path_algebra.specs.Rows.{path_at};
+ghost use Rattle.word_products.specs.SparseRows.{acted_along};
+ghost use Rattle.quiver_paths.specs.Quiver.{arrow_count, source};
+ghost use Rattle.path_algebra.specs.declared.rules.Rule.{Rule};
+ghost use Rattle.path_algebra.specs.declared.rules.Step.{Step};
+ghost use Rattle.path_algebra.specs.Reduction.{IsReduction, act_arrow, act_arrows};
+ghost use Rattle.path_algebra.specs.BasisClauses.{IsBasisClaim, StepsHold, RulesHold, ReducedHolds, WordsHold, MeetsClauses};
+ghost use Rattle.word_products.specs.WordProducts.{CanAct, KnowsProducts};
+ghost use Rattle.word_products.specs.declared.sparse.Entry.{Entry};
+ghost use Rattle.alg_table.specs.NormalForm.{IsNormalForm, AreRightProducts};
+ghost use Rattle.path_algebra.specs.declared.Header.{Header};
+ghost use Rattle.path_algebra.specs.Allowed.{IsAllowed};
+ghost use Rattle.path_algebra.specs.Words.{IsBasis};
 
-/// The coefficient of u·x·v at u·m·v is that of x at m; it is zero at paths of the bound's length or more, and at paths that are no such product.
-pub fn product_at()
-    ensures there { (t : ℕ) (u : Path) (x : Path → ℕ) (v m : Path) → Meets u m → Meets m v → path_length (concat u (concat m v)) < t
-        → product_between t u x v (concat u (concat m v)) ≡ x m }
-    ensures long { (t : ℕ) (u : Path) (x : Path → ℕ) (v p : Path) → t ≤ path_length p → product_between t u x v p ≡ 0 }
-    ensures elsewhere { (t : ℕ) (u : Path) (x : Path → ℕ) (v p : Path) → ((m : Path) → Meets u m → Meets m v → p ≢ concat u (concat m v)) → product_between t u x v p ≡ 0 }
+/// Reduction by rules whose tails are smaller than their tips makes one thing of each path of the quiver. (Green.)
+pub fn reduction_is_unique()
+    ensures { (h : Header) (words : List Path) (rules : List Rule) → CanAct h words rules → (f g : Path → Path → ℕ) → IsReduction h rules f → IsReduction h rules g
+        → (p : Path) → IsPath h.quiver p → (r : Path) → f p r ≡ g p r }
 {}
 
-/// The ideal is closed under sums and multiples; its members are zero but at paths of the quiver that are shorter than the bound.
-pub fn ideal_is_a_subspace()
-    ensures sum { (h : Header) (x y : Path → ℕ) → IsInIdeal h x → IsInIdeal h y → IsInIdeal h (λ p. add h.field (x p) (y p)) }
-    ensures multiple { (h : Header) (c : ℕ) (x : Path → ℕ) → IsInIdeal h x → IsInIdeal h (λ p. mul h.field c (x p)) }
-    ensures support { (h : Header) → IsAllowed h → (x : Path → ℕ) → IsInIdeal h x → (p : Path) → x p ≢ 0 → IsShortPath h p }
+/// An arrow behind a path may be put there before the path is reduced, or act on what the path becomes, where the whole is shorter than the bound.
+pub fn arrows_act_behind()
+    ensures { (h : Header) (words : List Path) (rules : List Rule) → CanAct h words rules → (becomes : Path → Path → ℕ) → IsReduction h rules becomes → (b : ℕ) → b < arrow_count h.quiver
+        → (p : Path) → IsPath h.quiver p → p.end ≡ source h.quiver b → path_length p + 1 < h.bound → act_arrow h becomes words b (becomes p) ≡ becomes (concat p (arrow_path h.quiver b)) }
 {}
 
-/// The normal words are a basis of the quotient: each path shorter than the bound is congruent to exactly one combination of them. (Green.)
-pub fn normal_words_are_a_basis()
-    ensures { (h : Header) → IsAllowed h → (words : List Path) → AreNormalWords h words → IsBasis h words }
+/// Arrows can act by rules and words of which the conditions before the last hold.
+pub fn conditions_before_the_last()
+    ensures { (h : Header) (words : List Path) (steps : List Step) (rules : List Rule) → IsAllowed h → IsBasisClaim h words steps rules → StepsHold h steps rules → RulesHold h steps rules
+        → ReducedHolds h rules → WordsHold h words rules → CanAct h words rules }
 {}
 
-/// A header has at most one list of normal words.
-pub fn normal_words_are_unique()
-    ensures { (h : Header) (a b : List Path) → AreNormalWords h a → AreNormalWords h b → a ≡ b }
+/// The rows of products by reduction are the normal forms of the words with the arrows behind them, where all conditions hold.
+pub fn products_are_normal_forms()
+    ensures { (h : Header) (words : List Path) (steps : List Step) (rules : List Rule) → IsAllowed h → IsBasisClaim h words steps rules → MeetsClauses h words steps rules
+        → (rows : List (List Entry)) → KnowsProducts h words rules rows → length rows ≡ length words * arrow_count h.quiver → AreRightProducts h words rows }
 {}
 
-/// Each short path is normal or the greatest path of a member of the ideal.
-pub fn short_paths_are_normal_or_tips()
-    ensures { (h : Header) → IsAllowed h → (p : Path) → IsShortPath h p → IsNormal h p ⊎ IsTip h p }
+/// A path of the quiver has one normal form over a basis of words.
+pub fn normal_forms_are_unique()
+    ensures { (h : Header) (words : List Path) → IsBasis h words → (p : Path) → IsPath h.quiver p → (c d : List ℕ) → IsNormalForm h words p c → IsNormalForm h words p d → c ≡ d }
 {}
 
-/// The element of each step of a derivation is in the ideal.
-pub fn derivations_stay_in_the_ideal()
-    ensures { (h : Header) → IsAllowed h → (steps : List Step) → AreSteps h steps → (n : ℕ) → IsInIdeal h (element_at (step_elements h steps) n) }
+/// Where all conditions hold, arrows behind a path act on what the path becomes, however long it is.
+pub fn arrows_always_act_behind()
+    ensures { (h : Header) (words : List Path) (steps : List Step) (rules : List Rule) → IsAllowed h → IsBasisClaim h words steps rules → (m : MeetsClauses h words steps rules)
+        → (xs : List ℕ) (p : Path) (v : ℕ) → IsPath h.quiver p → Leads h.quiver p.end xs v
+        → act_arrows h m.action.becomes words xs (m.action.becomes p) ≡ m.action.becomes (record { start = p.start; end = v; arrows = p.arrows ++ xs }) }
 {}
 
-/// Words, steps and rules that meet the five conditions: the words are the normal words, which are a basis of the quotient, and the rules are
-/// the reduced rules. (Green.)
-pub fn conditions_suffice()
-    ensures normal { (h : Header) (words : List Path) (steps : List Step) (rules : List Rule) → IsAllowed h → IsBasisClaim h words steps rules
-        → MeetsClauses h words steps rules → AreNormalWords h words }
-    ensures basis { (h : Header) (words : List Path) (steps : List Step) (rules : List Rule) → IsAllowed h → IsBasisClaim h words steps rules
-        → MeetsClauses h words steps rules → IsBasis h words }
-    ensures reduced { (h : Header) (words : List Path) (steps : List Step) (rules : List Rule) → IsAllowed h → IsBasisClaim h words steps rules
-        → MeetsClauses h words steps rules → AreReducedRules h rules }
-{}
-
-/// And conversely: the normal words and the reduced rules, each with a step that is what it says, meet the five conditions.
-pub fn conditions_are_met()
-    ensures { (h : Header) → IsAllowed h → (words : List Path) → AreNormalWords h words → (rules : List Rule) → AreReducedRules h rules
-        → (steps : List Step) → StepsHold h steps rules
-        → ((rule : Rule) → Contains rules rule → (p : Path) → rule_element h rule p ≡ element_at (step_elements h steps) rule.step p)
-        → MeetsClauses h words steps rules }
+/// Where all conditions hold, the arrows of a path make of the row of the trivial word where it starts the path's normal form.
+pub fn rows_give_normal_forms()
+    ensures { (h : Header) (words : List Path) (steps : List Step) (rules : List Rule) → IsAllowed h → IsBasisClaim h words steps rules → MeetsClauses h words steps rules
+        → (rows : List (List Entry)) → KnowsProducts h words rules rows → length rows ≡ length words * arrow_count h.quiver
+        → (p : Path) → IsPath h.quiver p → (place : ℕ) → place < length words → path_at words place ≡ trivial_path p.start
+        → IsNormalForm h words p (acted_along h.field rows (arrow_count h.quiver) p.arrows (unit (length words) place)) }
 {}

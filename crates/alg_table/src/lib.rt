@@ -1,86 +1,15 @@
 //! The quotient of the path algebra of a quiver by an ideal of relations, over a finite field, with its basis of normal words.
 #![tactic(auto)]
 
-ghost use Rattle.std.specs.Prelude.{◌≡◌};
-
-use fp_linear::Field;
-use quiver_paths::{Path, Quiver};
-use seq::Seq;
-use std::alloc::AllocError;
-
+mod checking;
 mod clauses;
-mod closing;
-mod closure;
-mod derivations;
 mod first_clauses;
 pub mod laws;
-mod products;
+mod places;
 mod reduced;
-mod rules;
-mod sums;
 mod table;
-mod tips;
 mod words;
 
-pub use closing::close_rows;
+pub use checking::{CheckBasisError, check_basis};
 pub use first_clauses::first_fault;
-pub use rules::{BasisFault, Element, Rule, Step};
-pub use table::Table;
-
-/// A coefficient, from 1 to the field's size less 1, and a path.
-#[derive(Debug, Drop)]
-pub struct Term {
-    pub coef: u8,
-    pub path: Path,
-}
-
-/// A sum of terms that is zero in the algebra.
-#[derive(Debug, Drop)]
-pub struct Relation {
-    pub terms: Seq<Term>,
-}
-
-/// An algebra: its field, its quiver, the bound, and the relations. The relations are zero in it, and so is each path of the bound's length.
-#[derive(Drop)]
-pub struct Header {
-    pub field: Field,
-    pub quiver: Quiver,
-    pub bound: u32,
-    pub relations: Seq<Relation>,
-}
-
-impl Clone for Term {
-    ghost is_clone = { λ term copy. copy ≡ term };
-
-    fn clone(&self) -> Result<Self, AllocError> {
-        let path = self.path.clone()?;
-        Ok(Term {
-            coef: self.coef,
-            path,
-        })
-    }
-}
-
-impl Clone for Relation {
-    ghost is_clone = { λ relation copy. copy ≡ relation };
-
-    fn clone(&self) -> Result<Self, AllocError> {
-        let terms = self.terms.clone()?;
-        Ok(Relation { terms })
-    }
-}
-
-impl Clone for Header {
-    ghost is_clone = { λ header copy. copy ≡ header };
-
-    fn clone(&self) -> Result<Self, AllocError> {
-        let quiver = self.quiver.clone()?;
-        let relations = self.relations.clone()?;
-        Ok(Header {
-            field: self.field,
-            quiver,
-            bound: self.bound,
-            relations,
-        })
-    }
-}
+pub use table::{Side, Table};

@@ -2,15 +2,14 @@
 ghost use Rattle.std.specs.Prelude.{◌≡◌, ◌<◌, ◌≤◌, length, All, MatchBool};
 ghost use Rattle.quiver_paths.specs.Path.{IsPath, path_length};
 ghost use Rattle.quiver_paths.specs.PathOrder.{IsSmaller};
-ghost use Rattle.alg_table.specs.declared.Term.{Term};
-ghost use Rattle.alg_table.specs.declared.rules.Rule.{Rule};
-ghost use Rattle.alg_table.specs.Rules.{AreElementTerms};
-ghost use Rattle.alg_table.specs.Reduction.{HasNoTip};
-ghost use Rattle.alg_table.specs.BasisClauses.{ReducedHolds};
-ghost use Rattle.alg_table.specs.Occurring.{AreLongTips, TipsAscend, IsReducedAmong, HasTip, EndsInTip};
+ghost use Rattle.path_algebra.specs.declared.Term.{Term};
+ghost use Rattle.path_algebra.specs.declared.rules.Rule.{Rule};
+ghost use Rattle.path_algebra.specs.Rules.{AreElementTerms};
+ghost use Rattle.path_algebra.specs.Reduction.{HasNoTip};
+ghost use Rattle.path_algebra.specs.BasisClauses.{ReducedHolds};
+ghost use Rattle.path_algebra.specs.Occurring.{AreLongTips, TipsAscend, IsReducedAmong, HasTip, EndsInTip};
 
-use crate::tips::{ends_in_tip, has_tip};
-use crate::{Header, Rule, Term};
+use path_algebra::{Header, Rule, Term, ends_in_tip, has_tip};
 use quiver_paths::{Path, compare};
 use std::cmp::Ordering;
 

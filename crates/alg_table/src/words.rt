@@ -4,14 +4,13 @@ ghost use Rattle.std.specs.Ordering.{ordering_then, nat_cmp};
 ghost use Rattle.quiver_paths.specs.Path.{IsPath, path_length};
 ghost use Rattle.quiver_paths.specs.PathOrder.{IsAscending};
 ghost use Rattle.quiver_paths.specs.Quiver.{arrow_count};
-ghost use Rattle.alg_table.specs.Allowed.{IsAllowed};
-ghost use Rattle.alg_table.specs.BasisClauses.{WordsHold};
-ghost use Rattle.alg_table.specs.Occurring.{arrows_cmp, AreLongTips, TipsAscend};
+ghost use Rattle.path_algebra.specs.Allowed.{IsAllowed};
+ghost use Rattle.path_algebra.specs.BasisClauses.{WordsHold};
+ghost use Rattle.path_algebra.specs.Occurring.{arrows_cmp, AreLongTips, TipsAscend};
 ghost use Rattle.alg_table.specs.WordChecks.{IsWordAt, HasTrivialWords, IsGrown, GoesOn, GoesOnBy, IsClosed, IsWellPlaced};
 
 use crate::reduced::is_smaller;
-use crate::tips::{compare_arrows, ends_in_tip};
-use crate::{Header, Rule};
+use path_algebra::{Header, Rule, compare_arrows, ends_in_tip};
 use quiver_paths::Path;
 use std::alloc::{AllocError, Global};
 use std::cmp::Ordering;

@@ -223,7 +223,7 @@ pub IsFactor-arrows : (Q : Quiver) (f p : Path) (h : IsFactor Q f p) → p.arrow
 IsFactor-arrows Q f p h = ap (λ (x : Path). x.arrows) h.whole
 
 -- the start of arrows that lead on is known by the first of them
-Leads-start : (Q : Quiver) (u u' : ℕ) (xs : List ℕ) (w w' : ℕ) → 0 < length xs → Leads Q u xs w → Leads Q u' xs w' → u ≡ u'
+pub Leads-start : (Q : Quiver) (u u' : ℕ) (xs : List ℕ) (w w' : ℕ) → 0 < length xs → Leads Q u xs w → Leads Q u' xs w' → u ≡ u'
 Leads-start Q u u' [] w w' l h g = absurd (omega arith)
 Leads-start Q u u' (a ∷ xs) w w' l h g = sym h.1 ∙ g.1
 

@@ -22,7 +22,7 @@ pub fn paths_below(
     limit: u32,
 ) -> Result<Vec<Path>, PathError>
     requires quiver { IsQuiver quiver.now }
-    requires bound { t ≤ 32 }
+    requires bound { t ≤ 33 }
     ensures listed { IfOk result (λ paths. ListsPathsBelow quiver.now t paths.items) }
     ensures value { IfOk result (λ paths. paths.items ≡ paths_below quiver.now t) }
     ensures within { OnOk result (path_count quiver.now t ≤ limit) }

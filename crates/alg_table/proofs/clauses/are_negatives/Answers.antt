@@ -1,5 +1,5 @@
 use Rattle.std.proofs.Common.{arith}
-use Rattle.alg_table.proofs.DerivedRules.{negatives_from_items}
+use Rattle.path_algebra.proofs.DerivedRules.{negatives_from_items}
 use Rattle.alg_table.proofs.clauses.are_negatives.Goals as goal
 
 pub returns : goal.returns

@@ -1,6 +1,6 @@
 use Rattle.std.proofs.Common.{ℕ, ◌<◌, ◌≡◌, get_or}
-use Rattle.alg_table.specs.declared.Term.{Term}
-use Rattle.alg_table.specs.ElementTerms.{negative}
+use Rattle.path_algebra.specs.declared.Term.{Term}
+use Rattle.path_algebra.specs.ElementTerms.{negative}
 use Rattle.alg_table.proofs.clauses.are_negatives.Given as goal
 
 abbrev pub invariant-loop-i : goal.invariant-loop-i

@@ -1,11 +1,11 @@
 use Rattle.std.proofs.Common.{◌≡◌, length, sym, subst, arith, inl, inr}
 use Rattle.std.proofs.lemmas.Bool.{cases_lt}
-use Rattle.alg_table.specs.declared.rules.Rule.{Rule}
-use Rattle.alg_table.specs.Derivations.{IsNumber, element_at, step_elements}
-use Rattle.alg_table.specs.BasisClauses.{RuleHolds}
-use Rattle.alg_table.specs.ElementTerms.{AreTermsOf}
-use Rattle.alg_table.proofs.Derived.{count_of_elements}
-use Rattle.alg_table.proofs.DerivedRules.{rule_at, rule_holds_from, rule_of_from, tail_at, path_at, item_at}
+use Rattle.path_algebra.specs.declared.rules.Rule.{Rule}
+use Rattle.path_algebra.specs.Derivations.{IsNumber, element_at, step_elements}
+use Rattle.path_algebra.specs.BasisClauses.{RuleHolds}
+use Rattle.path_algebra.specs.ElementTerms.{AreTermsOf}
+use Rattle.path_algebra.proofs.Derived.{count_of_elements}
+use Rattle.path_algebra.proofs.DerivedRules.{rule_at, rule_holds_from, rule_of_from, tail_at, path_at, item_at}
 use Rattle.alg_table.proofs.clauses.rules_hold.Goals as goal
 
 pub index-element-requires : goal.index-element-requires

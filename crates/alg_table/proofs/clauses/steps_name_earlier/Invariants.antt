@@ -1,6 +1,6 @@
 use Rattle.std.proofs.Common.{ℕ, ◌<◌, get_or}
-use Rattle.alg_table.specs.declared.rules.Step.{Step}
-use Rattle.alg_table.specs.Derivations.{NamesEarlier}
+use Rattle.path_algebra.specs.declared.rules.Step.{Step}
+use Rattle.path_algebra.specs.Derivations.{NamesEarlier}
 use Rattle.alg_table.proofs.clauses.steps_name_earlier.Given as goal
 
 abbrev pub invariant-loop-k : goal.invariant-loop-k

@@ -1,6 +1,6 @@
 use Rattle.std.proofs.lemmas.Bool.{MatchBool-at_true}
-use Rattle.alg_table.specs.BasisClauses.{RulesHold}
-use Rattle.alg_table.proofs.LongTips.{long_tips}
+use Rattle.path_algebra.specs.BasisClauses.{RulesHold}
+use Rattle.path_algebra.proofs.LongTips.{long_tips}
 use Rattle.alg_table.proofs.first_clauses.first_fault.Goals as goal
 
 pub reduced_holds-requires-clause-tips : goal.reduced_holds-requires-clause-tips

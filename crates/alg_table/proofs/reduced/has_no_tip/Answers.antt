@@ -1,11 +1,11 @@
 use Rattle.std.proofs.Common.{arith, inl, inr, sym, subst}
 use Rattle.std.proofs.lemmas.Bool.{cases_lt}
 use Rattle.quiver_paths.specs.Path.{IsPath}
-use Rattle.alg_table.specs.declared.Term.{Term}
-use Rattle.alg_table.specs.Reduction.{HasNoTip}
-use Rattle.alg_table.specs.Occurring.{HasTip}
-use Rattle.alg_table.proofs.DerivedRules.{item_at}
-use Rattle.alg_table.proofs.TipFactors.{no_tip_if, tip_refuses}
+use Rattle.path_algebra.specs.declared.Term.{Term}
+use Rattle.path_algebra.specs.Reduction.{HasNoTip}
+use Rattle.path_algebra.specs.Occurring.{HasTip}
+use Rattle.path_algebra.proofs.DerivedRules.{item_at}
+use Rattle.path_algebra.proofs.TipFactors.{no_tip_if, tip_refuses}
 use Rattle.alg_table.proofs.reduced.has_no_tip.Goals as goal
 
 pub returns-then-has_tip : goal.returns-then-has_tip

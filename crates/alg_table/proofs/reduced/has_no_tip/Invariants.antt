@@ -1,6 +1,6 @@
 use Rattle.std.proofs.Common.{ℕ, ◌<◌, get_or}
-use Rattle.alg_table.specs.declared.Term.{Term}
-use Rattle.alg_table.specs.Reduction.{HasNoTip}
+use Rattle.path_algebra.specs.declared.Term.{Term}
+use Rattle.path_algebra.specs.Reduction.{HasNoTip}
 use Rattle.alg_table.proofs.reduced.has_no_tip.Given as goal
 
 abbrev pub invariant-loop-term : goal.invariant-loop-term

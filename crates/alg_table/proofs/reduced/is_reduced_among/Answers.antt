@@ -1,5 +1,5 @@
 use Rattle.std.proofs.Common.{arith}
-use Rattle.alg_table.proofs.TipFactors.{front_refuses, rest_refuses, no_other_if, front_slice, front_slice_back, rest_slice, rest_slice_back, reduced_by_tail}
+use Rattle.path_algebra.proofs.TipFactors.{front_refuses, rest_refuses, no_other_if, front_slice, front_slice_back, rest_slice, rest_slice_back, reduced_by_tail}
 use Rattle.alg_table.proofs.reduced.is_reduced_among.Goals as goal
 
 pub returns-then-has_tip : goal.returns-then-has_tip

@@ -1,8 +1,8 @@
 use Rattle.std.proofs.Common.{arith, inl, inr, subst}
 use Rattle.std.proofs.lemmas.Bool.{cases_lt}
-use Rattle.alg_table.specs.Occurring.{IsReducedAmong}
-use Rattle.alg_table.proofs.DerivedRules.{item_at, tail_at}
-use Rattle.alg_table.proofs.TipFactors.{reduced_each, reduced_all}
+use Rattle.path_algebra.specs.Occurring.{IsReducedAmong}
+use Rattle.path_algebra.proofs.DerivedRules.{item_at, tail_at}
+use Rattle.path_algebra.proofs.TipFactors.{reduced_each, reduced_all}
 use Rattle.alg_table.proofs.reduced.reduced_holds.Goals as goal
 
 pub is_reduced_among-requires-clause-tail : goal.is_reduced_among-requires-clause-tail

@@ -1,6 +1,6 @@
 use Rattle.std.proofs.Common.{ℕ, ◌<◌, get_or}
-use Rattle.alg_table.specs.declared.rules.Rule.{Rule}
-use Rattle.alg_table.specs.Occurring.{IsReducedAmong}
+use Rattle.path_algebra.specs.declared.rules.Rule.{Rule}
+use Rattle.path_algebra.specs.Occurring.{IsReducedAmong}
 use Rattle.alg_table.proofs.reduced.reduced_holds.Given as goal
 
 abbrev pub invariant-loop-rule : goal.invariant-loop-rule

@@ -1,6 +1,6 @@
 use Rattle.std.proofs.Common.{arith}
-use Rattle.alg_table.specs.declared.rules.Rule.{Rule}
-use Rattle.alg_table.proofs.TipFactors.{ascend_from_steps, next_is_greater}
+use Rattle.path_algebra.specs.declared.rules.Rule.{Rule}
+use Rattle.path_algebra.proofs.TipFactors.{ascend_from_steps, next_is_greater}
 use Rattle.alg_table.proofs.reduced.tips_ascend.Goals as goal
 
 pub returns : goal.returns

@@ -1,6 +1,6 @@
 use Rattle.std.proofs.Common.{ℕ, ◌<◌, ◌+◌, get_or}
 use Rattle.quiver_paths.specs.PathOrder.{IsSmaller}
-use Rattle.alg_table.specs.declared.rules.Rule.{Rule}
+use Rattle.path_algebra.specs.declared.rules.Rule.{Rule}
 use Rattle.alg_table.proofs.reduced.tips_ascend.Given as goal
 
 abbrev pub invariant-loop-next : goal.invariant-loop-next

@@ -1,7 +1,7 @@
 use Rattle.std.proofs.Common.{arith, get_or, sym, subst, ◌-◌}
 use Rattle.quiver_paths.specs.PathOrder.{IsSmaller}
 use Rattle.quiver_paths.specs.declared.Path.{Path}
-use Rattle.alg_table.proofs.TipFactors.{ascend_from_steps, next_is_greater}
+use Rattle.path_algebra.proofs.TipFactors.{ascend_from_steps, next_is_greater}
 use Rattle.alg_table.proofs.words.words_ascend.Goals as goal
 
 pub returns-then-not-is_smaller : goal.returns-then-not-is_smaller

@@ -1,7 +1,7 @@
 use Rattle.std.proofs.Common.{arith, inl, inr, sym, subst}
 use Rattle.std.proofs.lemmas.Bool.{cases_lt, MatchBool-at_false, MatchBool-at_true}
 use Rattle.alg_table.specs.WordChecks.{IsWellPlaced}
-use Rattle.alg_table.proofs.DerivedRules.{item_at}
+use Rattle.path_algebra.proofs.DerivedRules.{item_at}
 use Rattle.alg_table.proofs.LocalWords.{words_hold_from, trivial_words, well_placed, placed_members}
 use Rattle.alg_table.proofs.words.words_hold.Goals as goal
 

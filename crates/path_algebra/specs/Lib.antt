@@ -1,0 +1,11 @@
+pub mod Elements
+pub mod Ideals
+pub mod Words
+pub mod Allowed
+pub mod Rows
+pub mod Rules
+pub mod Derivations
+pub mod Reduction
+pub mod BasisClauses
+pub mod ElementTerms
+pub mod Occurring

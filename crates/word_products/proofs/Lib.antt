@@ -1,0 +1,12 @@
+pub mod RowSlices
+pub mod SparseLemmas
+pub mod SparseActs
+pub mod TermSums
+pub mod WordRows
+pub mod RewrittenRows
+pub mod EntryRows
+pub mod ProductSteps
+pub mod ActingRows
+pub mod ImageSpans
+pub mod ActionSteps
+pub mod DenseRows

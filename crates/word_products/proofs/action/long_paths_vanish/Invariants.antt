@@ -1,0 +1,5 @@
+use Rattle.word_products.specs.Vanishing.{SpansImages}
+use Rattle.word_products.proofs.action.long_paths_vanish.Given as goal
+
+abbrev pub invariant-loop-k : goal.invariant-loop-k
+invariant-loop-k l = SpansImages l.header l.words l.rules l.k l.span

@@ -1,0 +1,4 @@
+pub mod Closure
+pub mod SparseRows
+pub mod WordProducts
+pub mod Vanishing

@@ -1,0 +1,302 @@
+//! The products of words with arrows, by reduction.
+ghost use Rattle.std.specs.Prelude.{ℕ, ◌≡◌, ◌<◌, ◌≤◌, ◌+◌, ◌*◌, ◌-◌, length, Contains, All, IfOk, OnOk, MatchOption, slice_index, slice_index_or, drop, ◌↔◌, IsTrue};
+ghost use Rattle.linear_algebra.specs.Field.{Gf};
+ghost use Rattle.linear_algebra.specs.Rows.{IsRow};
+ghost use Rattle.quiver_paths.specs.declared.Path.{Path};
+ghost use Rattle.quiver_paths.specs.PathOrder.{IsAscending};
+ghost use Rattle.quiver_paths.specs.Quiver.{arrow_count};
+ghost use Rattle.quiver_paths.specs.Path.{IsPath, path_length, concat, arrow_path};
+ghost use Rattle.path_algebra.specs.declared.rules.Rule.{Rule};
+ghost use Rattle.word_products.specs.declared.sparse.Entry.{Entry};
+ghost use Rattle.word_products.specs.SparseRows.{IsEntry, entry_at};
+ghost use Rattle.word_products.specs.WordProducts.{KnowsProducts, CanAct, EndsWithArrows, IsNewProduct, front_before, AreEntriesOf, IsPushed};
+
+use crate::sparse::{Entry, SparseRows};
+use crate::word_sums::Sum;
+use path_algebra::{Header, Rule};
+use quiver_paths::{Path, compare};
+use seq::Seq;
+use std::alloc::{AllocError, Global};
+use std::cmp::Ordering;
+
+/// The rows of the products of the words with the arrows: for each word, in order, one for each arrow.
+pub(crate) fn product_rows(
+    alloc: Global,
+    header: &Header,
+    words: &[Path],
+    rules: &[Rule],
+) -> Result<SparseRows, AllocError>
+    requires can { CanAct header.now words.now rules.now }
+    ensures shape { IfOk result (λ s. s ≡ record { field = header.now.field; width = length words.now; rows = s.rows }) }
+    ensures count { IfOk result (λ s. length s.rows ≡ length words.now * arrow_count header.now.quiver) }
+    ensures products { IfOk result (λ s. KnowsProducts header.now words.now rules.now s.rows) }
+{
+    let mut rows = SparseRows::new(alloc, header.field, words.len());
+    let mut sum = Sum::new(alloc, header.field, words.len())?;
+    for i in 0..words.len() {
+        add_products(alloc, header, words, rules, i, &mut rows, &mut sum)?;
+    }
+    Ok(rows)
+}
+
+/// Adds the products of the word at a place with the arrows.
+fn add_products(
+    alloc: Global,
+    header: &Header,
+    words: &[Path],
+    rules: &[Rule],
+    i: usize,
+    rows: &mut SparseRows,
+    sum: &mut Sum,
+) -> Result<(), AllocError>
+    requires can { CanAct header.now words.now rules.now }
+    requires place { i < length words.now }
+    requires shape { rows.old ≡ record { field = header.now.field; width = length words.now; rows = rows.old.rows } }
+    requires count { length rows.old.rows ≡ i * arrow_count header.now.quiver }
+    requires products { KnowsProducts header.now words.now rules.now rows.old.rows }
+    requires sum { sum.old ≡ record { field = header.now.field; width = length words.now; sum = sum.old.sum } }
+    ensures shape { OnOk result (rows.new ≡ record rows.old { rows = rows.new.rows }) }
+    ensures count { OnOk result (length rows.new.rows ≡ (i + 1) * arrow_count header.now.quiver) }
+    ensures products { OnOk result (KnowsProducts header.now words.now rules.now rows.new.rows) }
+    ensures sum { OnOk result (sum.new ≡ record sum.old { sum = sum.new.sum }) }
+{
+    for a in 0..header.quiver.arrows.len() {
+        add_product(alloc, header, words, rules, i, a, rows, sum)?;
+    }
+    Ok(())
+}
+
+/// Adds the product of the word at a place with an arrow.
+fn add_product(
+    alloc: Global,
+    header: &Header,
+    words: &[Path],
+    rules: &[Rule],
+    i: usize,
+    a: usize,
+    rows: &mut SparseRows,
+    sum: &mut Sum,
+) -> Result<(), AllocError>
+    requires can { CanAct header.now words.now rules.now }
+    requires place { i < length words.now }
+    requires arrow { a < arrow_count header.now.quiver }
+    requires shape { rows.old ≡ record { field = header.now.field; width = length words.now; rows = rows.old.rows } }
+    requires count { length rows.old.rows ≡ i * arrow_count header.now.quiver + a }
+    requires products { KnowsProducts header.now words.now rules.now rows.old.rows }
+    requires sum { sum.old ≡ record { field = header.now.field; width = length words.now; sum = sum.old.sum } }
+    ensures shape { OnOk result (rows.new ≡ record rows.old { rows = rows.new.rows }) }
+    ensures count { OnOk result (length rows.new.rows ≡ length rows.old.rows + 1) }
+    ensures products { OnOk result (KnowsProducts header.now words.now rules.now rows.new.rows) }
+    ensures sum { OnOk result (sum.new ≡ record sum.old { sum = sum.new.sum }) }
+{
+    let word = &words[i];
+    let arrow = &header.quiver.arrows[a];
+    if word.end != arrow.from {
+        return rows.push_row(&[]);
+    }
+    if word.arrows.len() + 1 >= header.bound as usize {
+        return rows.push_row(&[]);
+    }
+    let path = then_arrow(alloc, header, word, a as u8)?;
+    match find(words, &path) {
+        Some(place) => rows.push_row(&[Entry {
+            coef: 1,
+            word: place as u16,
+        }]),
+        None => add_rewritten(alloc, header, words, rules, i, a, &path, rows, sum),
+    }
+}
+
+/// The word with the arrow behind it.
+fn then_arrow(alloc: Global, header: &Header, word: &Path, arrow: u8) -> Result<Path, AllocError>
+    requires arrow { arrow < arrow_count header.now.quiver }
+    requires short { path_length word.now ≤ 64 }
+    ensures { IfOk result (λ p. p ≡ concat word.now (arrow_path header.now.quiver arrow)) }
+{
+    let mut arrows = Vec::with_capacity(alloc, word.arrows.len() + 1)?;
+    arrows.extend_from_slice(word.arrows.as_slice())?;
+    arrows.push(arrow)?;
+    Ok(Path {
+        start: word.start,
+        end: header.quiver.arrows[arrow as usize].to,
+        arrows: Seq::from_vec(arrows),
+    })
+}
+
+/// The place of a path among ascending paths; none where it is not one of them.
+fn find(paths: &[Path], path: &Path) -> Option<usize>
+    requires ascending { IsAscending paths.now }
+    requires once { (x : Path) → Contains paths.now x → x.arrows ≡ path.now.arrows → x.start ≡ path.now.start → x ≡ path.now }
+    ensures { MatchOption result ((k : ℕ) → k < length paths.now → slice_index_or paths.now k path.now ≡ path.now → ⊥)
+        (λ k. (k < length paths.now) × (slice_index_or paths.now k path.now ≡ path.now)) }
+{
+    let mut low = 0;
+    let mut high = paths.len();
+    while low < high {
+        let middle = low + (high - low) / 2;
+        match compare(&paths[middle], path) {
+            Ordering::Less => low = middle + 1,
+            Ordering::Equal => return Some(middle),
+            Ordering::Greater => high = middle,
+        }
+    }
+    None
+}
+
+/// The place of a path among ascending paths that have it.
+fn place_of(paths: &[Path], path: &Path) -> usize
+    requires ascending { IsAscending paths.now }
+    requires listed { Contains paths.now path.now }
+    ensures inside { result < length paths.now }
+    ensures there { slice_index_or paths.now result path.now ≡ path.now }
+{
+    let mut low = 0;
+    let mut high = paths.len();
+    while low < high {
+        let middle = low + (high - low) / 2;
+        match compare(&paths[middle], path) {
+            Ordering::Less => low = middle + 1,
+            Ordering::Equal => return middle,
+            Ordering::Greater => high = middle,
+        }
+    }
+    low
+}
+
+/// Adds the product of the word at a place with an arrow, which is a short path and no word: it ends with a tip, in whose place the tail is put.
+fn add_rewritten(
+    alloc: Global,
+    header: &Header,
+    words: &[Path],
+    rules: &[Rule],
+    i: usize,
+    a: usize,
+    path: &Path,
+    rows: &mut SparseRows,
+    sum: &mut Sum,
+) -> Result<(), AllocError>
+    requires can { CanAct header.now words.now rules.now }
+    requires product { IsNewProduct header.now words.now i a path.now }
+    requires shape { rows.old ≡ record { field = header.now.field; width = length words.now; rows = rows.old.rows } }
+    requires count { length rows.old.rows ≡ i * arrow_count header.now.quiver + a }
+    requires products { KnowsProducts header.now words.now rules.now rows.old.rows }
+    requires sum { sum.old ≡ record { field = header.now.field; width = length words.now; sum = sum.old.sum } }
+    ensures shape { OnOk result (rows.new ≡ record rows.old { rows = rows.new.rows }) }
+    ensures count { OnOk result (length rows.new.rows ≡ length rows.old.rows + 1) }
+    ensures products { OnOk result (KnowsProducts header.now words.now rules.now rows.new.rows) }
+    ensures sum { OnOk result (sum.new ≡ record sum.old { sum = sum.new.sum }) }
+{
+    match rule_ending(rules, path) {
+        None => rows.push_row(&[]),
+        Some(k) => add_by_rule(alloc, header, words, rules, i, a, path, k, rows, sum),
+    }
+}
+
+/// Adds the product of the word at a place with an arrow, which ends with the tip of a rule.
+fn add_by_rule(
+    alloc: Global,
+    header: &Header,
+    words: &[Path],
+    rules: &[Rule],
+    i: usize,
+    a: usize,
+    path: &Path,
+    k: usize,
+    rows: &mut SparseRows,
+    sum: &mut Sum,
+) -> Result<(), AllocError>
+    requires can { CanAct header.now words.now rules.now }
+    requires product { IsNewProduct header.now words.now i a path.now }
+    requires rule { k < length rules.now }
+    requires ends { (d : Rule) → EndsWithArrows (slice_index_or rules.now k d).tip path.now }
+    requires shape { rows.old ≡ record { field = header.now.field; width = length words.now; rows = rows.old.rows } }
+    requires count { length rows.old.rows ≡ i * arrow_count header.now.quiver + a }
+    requires products { KnowsProducts header.now words.now rules.now rows.old.rows }
+    requires sum { sum.old ≡ record { field = header.now.field; width = length words.now; sum = sum.old.sum } }
+    ensures shape { OnOk result (rows.new ≡ record rows.old { rows = rows.new.rows }) }
+    ensures count { OnOk result (length rows.new.rows ≡ length rows.old.rows + 1) }
+    ensures products { OnOk result (KnowsProducts header.now words.now rules.now rows.new.rows) }
+    ensures sum { OnOk result (sum.new ≡ record sum.old { sum = sum.new.sum }) }
+{
+    let rule = &rules[k];
+    let front = front_of(alloc, path, &rule.tip)?;
+    let place = place_of(words, &front);
+    sum.of_terms(
+        rows,
+        header.quiver.arrows.len(),
+        header.bound as usize,
+        &rule.tip,
+        rule.tail.terms.as_slice(),
+        place,
+    );
+    push_sum(alloc, rows, sum)
+}
+
+/// The path before the tip that it ends with.
+fn front_of(alloc: Global, path: &Path, tip: &Path) -> Result<Path, AllocError>
+    requires { EndsWithArrows tip.now path.now }
+    ensures { IfOk result (λ p. p ≡ front_before path.now tip.now) }
+{
+    let count = path.arrows.len() - tip.arrows.len();
+    let mut arrows = Vec::with_capacity(alloc, count)?;
+    arrows.extend_from_slice(&path.arrows.as_slice()[..count])?;
+    Ok(Path {
+        start: path.start,
+        end: tip.start,
+        arrows: Seq::from_vec(arrows),
+    })
+}
+
+/// The place of a rule with whose tip the path ends.
+fn rule_ending(rules: &[Rule], path: &Path) -> Option<usize>
+    ensures { MatchOption result ((k : ℕ) (d : Rule) → k < length rules.now → EndsWithArrows (slice_index_or rules.now k d).tip path.now → ⊥)
+        (λ k. (k < length rules.now) × ((d : Rule) → EndsWithArrows (slice_index_or rules.now k d).tip path.now)) }
+{
+    for (k, rule) in rules.iter().enumerate() {
+        if ends_with(path, &rule.tip) {
+            return Some(k);
+        }
+    }
+    None
+}
+
+/// Whether the arrows of the path end with those of the tip.
+fn ends_with(path: &Path, tip: &Path) -> bool
+    ensures { IsTrue result ↔ EndsWithArrows tip.now path.now }
+{
+    if path.arrows.len() < tip.arrows.len() {
+        return false;
+    }
+    let count = path.arrows.len() - tip.arrows.len();
+    let last = &path.arrows.as_slice()[count..];
+    last == tip.arrows.as_slice()
+}
+
+/// Adds the row of a sum, without its zeros.
+fn push_sum(alloc: Global, rows: &mut SparseRows, sum: &Sum) -> Result<(), AllocError>
+    requires field { rows.old.field ≡ sum.now.field }
+    requires width { rows.old.width ≡ sum.now.width }
+    requires few { sum.now.width ≤ 4096 }
+    ensures shape { OnOk result (rows.new ≡ record rows.old { rows = rows.new.rows }) }
+    ensures pushed { OnOk result (IsPushed rows.old.field rows.old.rows rows.new.rows sum.now.sum) }
+{
+    let entries = entries_of(alloc, sum.row())?;
+    rows.push_row(&entries)
+}
+
+/// The entries of a row that are not zero, with their places.
+fn entries_of(alloc: Global, row: &[u8]) -> Result<Vec<Entry>, AllocError>
+    requires few { length row.now ≤ 4096 }
+    ensures { (q : Gf) → IsRow q (length row.now) row.now → IfOk result (λ entries. AreEntriesOf q row.now (length row.now) entries.items) }
+{
+    let mut entries = Vec::new(alloc);
+    for (j, coef) in row.iter().enumerate() {
+        if *coef != 0 {
+            entries.push(Entry {
+                coef: *coef,
+                word: j as u16,
+            })?;
+        }
+    }
+    Ok(entries)
+}
