@@ -1,38 +1,37 @@
 -- Without a gap arrows may be put before and behind a path before or after it is reduced, so relations and long paths act as zero.
-use Rattle.std.proofs.Common.{ℕ, zero, suc, ◌≡◌, ◌≢◌, ◌<◌, ◌≤◌, ◌+◌, ◌⊎◌, inl, inr, List, [], ◌∷◌, ◌++◌, length, ◌&&◌, Bool, true, false, eqb, ltb, if◌then◌else◌, refl, sym, ap, ap₂, ◌∙◌, subst, arith}
-use Rattle.std.specs.Prelude.{Contains, All, AllPairs}
+use Rattle.std.proofs.Common.{ℕ, ◌≡◌, ◌<◌, inl, inr, List, [], ◌∷◌, ◌++◌, ◌&&◌, eqb, ltb, if◌then◌else◌, refl, sym, ap, ap₂, ◌∙◌, subst, arith}
+use Rattle.std.specs.Prelude.{Contains, All}
 use mathlib.Core.Path.{fun_ext}
-use Rattle.std.proofs.lemmas.Bool.{cases_lt, cases_eq, cases_Bool, cond-true, cond-false, and_parts, eqb-true, eq-eqb, ne_eqb, lt-ltb, le-ltb}
-use Rattle.std.proofs.lemmas.List.{append-nil, append_assoc}
+use Rattle.std.proofs.lemmas.Bool.{cases_lt, cases_eq, cases_Bool, cond-true, cond-false, and_parts, eqb-true, eq-eqb, lt-ltb, le-ltb}
 use Rattle.std.proofs.lemmas.List.Elements.{All-contains, All-weaker}
-use Rattle.linear_algebra.specs.Field.{add, mul, order}
-use Rattle.linear_algebra.specs.FieldLaws.{add_mul, mul_assoc, mul_zero, zero_mul, one_mul, add_zero_zero}
+use Rattle.linear_algebra.specs.Field.{mul, order}
+use Rattle.linear_algebra.specs.FieldLaws.{add_mul, mul_assoc, mul_zero, zero_mul, one_mul}
 use Rattle.quiver_paths.specs.declared.Path.{Path}
 use Rattle.quiver_paths.specs.Quiver.{arrow_count, vertex_count, source, target}
-use Rattle.quiver_paths.specs.Path.{IsPath, Leads, path_length, Meets, concat, trivial_path, arrow_path, IsFactor}
+use Rattle.quiver_paths.specs.Path.{IsPath, Leads, path_length, Meets, concat, arrow_path, IsFactor}
 use Rattle.quiver_paths.specs.PathOrder.{IsSmaller, IsAscending}
 use Rattle.quiver_paths.specs.PathList.{ListsPathsBelow, paths_below}
 use Rattle.quiver_paths.proofs.ListLemmas.{Contains-head, Contains-behind, Contains-cons_cases, Contains-nil, AllPairs-nil, AllPairs-front, AllPairs-head, AllPairs-tail}
-use Rattle.quiver_paths.proofs.PathLemmas.{Leads-append, IsPath-concat, IsPath-arrow, path_length-concat, concat_assoc, concat-trivial_left, same_path}
+use Rattle.quiver_paths.proofs.PathLemmas.{Leads-append, IsPath-concat, IsPath-arrow, path_length-concat, concat_assoc, same_path}
 use Rattle.quiver_paths.proofs.PathListLemmas.{lists_paths_below}
-use Rattle.alg_table.specs.declared.Term.{Term}
-use Rattle.alg_table.specs.declared.Relation.{Relation}
-use Rattle.alg_table.specs.declared.Header.{Header}
-use Rattle.alg_table.specs.declared.rules.Rule.{Rule}
-use Rattle.alg_table.specs.Elements.{sum_over, path_element}
-use Rattle.alg_table.specs.Ideals.{IsInIdeal}
-use Rattle.alg_table.specs.Words.{IsShortPath}
-use Rattle.alg_table.specs.Allowed.{IsAllowed, IsRelation, IsTerm}
-use Rattle.alg_table.specs.Rules.{AreElementTerms, rule_element, AreReducedRules}
-use Rattle.alg_table.specs.Reduction.{HasNoTip, FirstOccurrence, IsReduction, sum_between, act_arrow, act_arrows, act_terms}
-use Rattle.alg_table.specs.BasisClauses.{ReducedHolds, WordsHold, ActionHolds}
-use Rattle.alg_table.proofs.SumsOver.{sum_over-nil, sum_over-same, sum_over-zeros, sum_over-add, mul-sum_over, IsLinear, linear-same, linear-zero, linear-sum, linear-compose}
-use Rattle.alg_table.proofs.Acting.{chosen-add, chosen-mul, chosen-zero, act_arrow-linear, act_arrow-word, along_by, sum_over-one, starts_apart}
-use Rattle.alg_table.proofs.ElementLemmas.{path_element-self, path_element-other}
-use Rattle.alg_table.proofs.Occurrences.{cases_occurrence}
-use Rattle.alg_table.proofs.Reducing.{AreRules, by_reduction, becomes_below, rewritten_smaller}
-use Rattle.alg_table.proofs.IdealActs.{parallel_terms}
-use Rattle.alg_table.proofs.ClausesSuffice.{AreSound, rules_are_reduced}
+use Rattle.path_algebra.specs.declared.Term.{Term}
+use Rattle.path_algebra.specs.declared.Relation.{Relation}
+use Rattle.path_algebra.specs.declared.Header.{Header}
+use Rattle.path_algebra.specs.declared.rules.Rule.{Rule}
+use Rattle.path_algebra.specs.Elements.{sum_over, path_element}
+use Rattle.path_algebra.specs.Ideals.{IsInIdeal}
+use Rattle.path_algebra.specs.Words.{IsShortPath}
+use Rattle.path_algebra.specs.Allowed.{IsAllowed, IsRelation, IsTerm}
+use Rattle.path_algebra.specs.Rules.{AreElementTerms, rule_element, AreReducedRules}
+use Rattle.path_algebra.specs.Reduction.{HasNoTip, IsReduction, sum_between, act_arrow, act_arrows, act_terms}
+use Rattle.path_algebra.specs.BasisClauses.{WordsHold, ActionHolds}
+use Rattle.path_algebra.proofs.SumsOver.{sum_over-nil, sum_over-same, sum_over-zeros, sum_over-add, mul-sum_over, IsLinear, linear-same, linear-zero, linear-sum, linear-compose}
+use Rattle.path_algebra.proofs.Acting.{chosen-add, chosen-mul, chosen-zero, act_arrow-linear, act_arrows-linear, act_arrow-word, along_by, sum_over-one, starts_apart}
+use Rattle.path_algebra.proofs.ElementLemmas.{path_element-self, path_element-other}
+use Rattle.path_algebra.proofs.Occurrences.{cases_occurrence}
+use Rattle.path_algebra.proofs.Reducing.{AreRules, by_reduction, becomes_below, rewritten_smaller}
+use Rattle.path_algebra.proofs.IdealActs.{parallel_terms}
+use Rattle.path_algebra.proofs.ClausesSuffice.{rules_are_reduced}
 use Rattle.path_basis.specs.Gaps.{IsTidy, AreTidy, HasNoGap, reduced_terms}
 
 -- a linear function goes into a sum between two paths
@@ -295,6 +294,38 @@ module _ (h : Header) (rules : List Rule) (ok : IsAllowed h) (tidy : AreTidy h r
                     ∙ linear-same before.acts _ (λ q. 0) reduced_is r ∙ linear-zero h.field before.acts before.linear r
                 | inr d ↦ sum_over-zeros h.field rel.terms _ (λ t k. term_apart t k (λ j. d (j ∙ sym (parallel_terms rel.terms lawful.parallel f t n k).starts)))
               ]
+
+  -- a path on each side acts linearly on what the paths become that it meets
+  pub record ActsBetween (u v : Path) : Type 0 where
+    pub acts : (Path → ℕ) → Path → ℕ
+    pub linear : IsLinear h.field acts
+    pub is : (m : Path) → IsPath h.quiver m → Meets u m → Meets m v → (r : Path) → becomes (concat u (concat m v)) r ≡ acts (becomes m) r
+
+  pub acts_between : (u v : Path) → IsPath h.quiver u → IsPath h.quiver v → ActsBetween u v
+  acts_between u v hu hv =
+      let before = path_before u.arrows u.start u.end hu.starts hu.leads in
+      let behind : (Path → ℕ) → Path → ℕ = act_arrows h becomes words v.arrows in
+      record {
+        acts = λ x. before.acts (behind x);
+        linear = linear-compose h.field behind before.acts (act_arrows-linear h becomes words v.arrows) before.linear;
+        is = λ m hm a b r.
+            before.is (concat m v) (IsPath-concat h.quiver m v hm hv b) (sym a) r
+            ∙ linear-same before.acts (becomes (concat m v)) (behind (becomes m))
+            (λ q. ap (λ (x : Path → ℕ). x q) (sym (along_by h becomes words ok.quiver.ends (λ b l q hq i. fun_ext (λ s. sym (arrow_behind b l q hq i s))) v.arrows m v.end hm
+            (subst (λ n. Leads h.quiver n v.arrows v.end) (sym b) hv.leads)))) r;
+      }
+
+  -- between two paths terms give what the paths make of their reduced sum
+  pub between_reduced : (u v : Path) (hu : IsPath h.quiver u) (hv : IsPath h.quiver v) (terms : List Term) → AreElementTerms h terms → ((a : Term) → Contains terms a → Meets u a.path × Meets a.path v) → (r : Path)
+      → sum_between h becomes u terms v r ≡ (acts_between u v hu hv).acts (reduced_terms h becomes terms) r
+  unfolding sum_between reduced_terms
+  between_reduced u v hu hv terms ts meets r =
+      let b = acts_between u v hu hv in
+      sum_over-same h.field terms _ _ (λ a m.
+      cond-true _ _ 0 (ap₂ (λ x y. x && y) (eq-eqb _ _ (meets a m).0) (eq-eqb _ _ (meets a m).1))
+      ∙ ap (mul h.field a.coef) (b.is a.path (All-contains (λ (x : Term). IsShortPath h x.path) terms a ts.short m).path (meets a m).0 (meets a m).1 r))
+      ∙ sym (linear-sum h.field b.acts b.linear terms (λ (a : Term). a.coef) (λ (a : Term). becomes a.path) r)
+      ∙ linear-same b.acts _ _ (λ p. sum_over-same h.field terms _ _ (λ a m. sym (cond-true _ _ 0 (lt-ltb _ _ (All-contains (λ (x : Term). IsShortPath h x.path) terms a ts.short m).short)))) r
 
 -- rules of the ideal without a gap, by which relations reduce to zero, are the reduced rules
 pub no_gap_reduced : (h : Header) (rules : List Rule) (becomes : Path → Path → ℕ) → IsAllowed h → AreTidy h rules → IsReduction h rules becomes → HasNoGap h rules becomes

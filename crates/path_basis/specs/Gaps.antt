@@ -4,13 +4,13 @@ use Rattle.linear_algebra.specs.Field.{mul}
 use Rattle.quiver_paths.specs.declared.Path.{Path}
 use Rattle.quiver_paths.specs.Path.{IsPath, path_length, IsFactor}
 use Rattle.quiver_paths.specs.PathOrder.{IsSmaller}
-use Rattle.alg_table.specs.declared.Term.{Term}
-use Rattle.alg_table.specs.declared.Header.{Header}
-use Rattle.alg_table.specs.declared.rules.Rule.{Rule}
-use Rattle.alg_table.specs.Elements.{sum_over}
-use Rattle.alg_table.specs.Allowed.{IsParallel}
-use Rattle.alg_table.specs.Rules.{AreElementTerms}
-use Rattle.alg_table.specs.Reduction.{sum_between, IsReduction}
+use Rattle.path_algebra.specs.declared.Term.{Term}
+use Rattle.path_algebra.specs.declared.Header.{Header}
+use Rattle.path_algebra.specs.declared.rules.Rule.{Rule}
+use Rattle.path_algebra.specs.Elements.{sum_over}
+use Rattle.path_algebra.specs.Allowed.{IsParallel}
+use Rattle.path_algebra.specs.Rules.{AreElementTerms}
+use Rattle.path_algebra.specs.Reduction.{sum_between}
 
 -- The tip is a path of the quiver with an arrow, shorter than the bound; the tail is a combination of smaller short paths that are parallel to it.
 pub record IsTidy (h : Header) (rule : Rule) : Type 0 where

@@ -1,1 +1,12 @@
 pub mod Gaps
+pub mod Occurrences
+pub mod Derived
+pub mod Reducing
+pub mod FirstGaps
+pub mod Scaling
+pub mod Inserting
+pub mod Measure
+pub mod Completing
+pub mod Tails
+pub mod Sifting
+pub mod Worked

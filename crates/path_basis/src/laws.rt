@@ -1,14 +1,14 @@
 //! What holds of rules without gaps. The functions do nothing: their contracts are laws.
 ghost use Rattle.std.specs.Prelude.{◌≡◌, ℕ, List, Contains, All};
 ghost use Rattle.quiver_paths.specs.declared.Path.{Path};
-ghost use Rattle.alg_table.specs.declared.Header.{Header};
-ghost use Rattle.alg_table.specs.declared.Relation.{Relation};
-ghost use Rattle.alg_table.specs.declared.Term.{Term};
-ghost use Rattle.alg_table.specs.declared.rules.Rule.{Rule};
-ghost use Rattle.alg_table.specs.Allowed.{IsAllowed};
-ghost use Rattle.alg_table.specs.Ideals.{IsInIdeal};
-ghost use Rattle.alg_table.specs.Rules.{rule_element, AreReducedRules};
-ghost use Rattle.alg_table.specs.Reduction.{HasNoTip, IsReduction};
+ghost use Rattle.path_algebra.specs.declared.Header.{Header};
+ghost use Rattle.path_algebra.specs.declared.Relation.{Relation};
+ghost use Rattle.path_algebra.specs.declared.Term.{Term};
+ghost use Rattle.path_algebra.specs.declared.rules.Rule.{Rule};
+ghost use Rattle.path_algebra.specs.Allowed.{IsAllowed};
+ghost use Rattle.path_algebra.specs.Ideals.{IsInIdeal};
+ghost use Rattle.path_algebra.specs.Rules.{rule_element, AreReducedRules};
+ghost use Rattle.path_algebra.specs.Reduction.{HasNoTip, IsReduction};
 ghost use Rattle.path_basis.specs.Gaps.{AreTidy, HasNoGap, reduced_terms};
 
 /// Where rules of the ideal have no gap, each relation without its terms of the bound's length or more reduces to zero, and in no path of a

@@ -1,0 +1,15 @@
+use Rattle.std.proofs.Common.{◌≤◌, ◌+◌, length}
+use Rattle.std.specs.Prelude.{All}
+use Rattle.path_basis.specs.Measure.{free_count}
+use Rattle.path_basis.specs.Completing.{IsPlace, IsCompletion}
+use Rattle.path_basis.proofs.completion.settle_removed.Given as goal
+
+abbrev pub invariant-loop-rule : goal.invariant-loop-rule
+invariant-loop-rule l = record {
+  completion : IsCompletion l.header l.state.rules.items l.state.removed.items l.state.steps.items;
+  places : All (IsPlace l.header) l.state.places.items;
+  fewer : free_count l.header l.state.rules.items ≤ free_count l.header l.fn.state.rules.items;
+}
+
+abbrev pub decreases-loop-rule : goal.decreases-loop-rule
+decreases-loop-rule l = free_count l.header l.state.rules.items + (length l.state.rules.items + length l.state.removed.items)

@@ -1,0 +1,55 @@
+-- The worked algebras of the tests: one vertex with loops.
+use Rattle.std.specs.Prelude.{ℕ, List, [], ◌∷◌}
+use Rattle.linear_algebra.specs.Field.{Gf}
+use Rattle.quiver_paths.specs.declared.Path.{Path}
+use Rattle.quiver_paths.specs.declared.Arrow.{Arrow}
+use Rattle.path_algebra.specs.declared.Term.{Term}
+use Rattle.path_algebra.specs.declared.Header.{Header}
+use Rattle.path_algebra.specs.declared.rules.Rule.{Rule}
+use Rattle.path_algebra.specs.Allowed.{IsAllowed}
+use Rattle.path_basis.specs.Gaps.{AreTidy}
+
+-- the path of these loops
+abbrev pub along : List ℕ → Path
+along arrows = record { start = 0; end = 0; arrows = arrows }
+
+-- a loop with a name
+abbrev pub loop_arrow : List ℕ → Arrow
+loop_arrow name = record { name = name; from = 0; to = 0 }
+
+-- a coefficient and loops
+abbrev pub term : ℕ → List ℕ → Term
+term coef arrows = record { coef = coef; path = along arrows }
+
+-- vertex v and loop x, with x·x + x·x·x = 0 and x·x·x·x = 0
+abbrev pub one_loop : Gf → Header
+one_loop f = record {
+  field = f;
+  quiver = record { vertices = (118 ∷ []) ∷ []; arrows = loop_arrow (120 ∷ []) ∷ [] };
+  bound = 4;
+  relations = record { terms = term 1 (0 ∷ 0 ∷ []) ∷ term 1 (0 ∷ 0 ∷ 0 ∷ []) ∷ [] } ∷ [];
+}
+
+-- vertex v and loops x and y, with y·y + x·x = 0, and no paths of four loops
+abbrev pub two_loops : Gf → Header
+two_loops f = record {
+  field = f;
+  quiver = record { vertices = (118 ∷ []) ∷ []; arrows = loop_arrow (120 ∷ []) ∷ loop_arrow (121 ∷ []) ∷ [] };
+  bound = 4;
+  relations = record { terms = term 1 (1 ∷ 1 ∷ []) ∷ term 1 (0 ∷ 0 ∷ []) ∷ [] } ∷ [];
+}
+
+-- the one rule that takes these loops to this tail
+abbrev pub rules_of : List ℕ → List Term → List Rule
+rules_of tip tail = record { tip = along tip; tail = record { terms = tail }; step = 1 } ∷ []
+
+-- the first algebra, and two rules
+pub record IsOneLoop (h : Header) : Type 0 where
+  pub allowed : IsAllowed h
+  pub cube : AreTidy h (rules_of (0 ∷ 0 ∷ 0 ∷ []) (term 2 (0 ∷ 0 ∷ []) ∷ []))
+  pub square : AreTidy h (rules_of (0 ∷ 0 ∷ []) [])
+
+-- the second, and a rule
+pub record IsTwoLoops (h : Header) : Type 0 where
+  pub allowed : IsAllowed h
+  pub square : AreTidy h (rules_of (1 ∷ 1 ∷ []) (term 1 (0 ∷ 0 ∷ []) ∷ []))

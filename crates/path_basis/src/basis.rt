@@ -1,0 +1,117 @@
+//! The reduced rules of an ideal, and the table of the quotient.
+ghost use Rattle.std.specs.Prelude.{ℕ, ◌≡◌, ◌<◌, ◌≤◌, ◌+◌, ◌^◌, List, length, slice_index_or, IfOk, IfErr, OnOk};
+ghost use Rattle.quiver_paths.specs.declared.PathError.TheVariants.{PathLimit, NoMemory};
+ghost use Rattle.quiver_paths.specs.declared.Path.{Path};
+ghost use Rattle.quiver_paths.specs.PathList.{path_count, saturated};
+ghost use Rattle.path_algebra.specs.Allowed.{IsAllowed};
+ghost use Rattle.path_algebra.specs.Rules.{AreReducedRules};
+ghost use Rattle.path_algebra.specs.Occurring.{TipsAscend};
+ghost use Rattle.path_algebra.specs.BasisClauses.{IsBasisClaim, MeetsClauses};
+ghost use Rattle.path_basis.specs.Derived.{IsDerivation, AreDerived};
+ghost use Rattle.path_basis.specs.Sifting.{AreSifted};
+
+use crate::completion::complete;
+use crate::tails::reduce_tails;
+use alg_table::{CheckBasisError, Table, check_basis};
+use path_algebra::{Header, Rule, Step, has_tip};
+use quiver_paths::{Path, PathError, paths_below};
+use seq::Seq;
+use std::alloc::{AllocError, Global};
+
+/// The table of an algebra, with the reduced rules of its ideal, by ascending tips, and the steps that derive them from the relations.
+#[derive(Drop)]
+pub struct Reduced {
+    pub table: Table,
+    pub steps: Seq<Step>,
+    pub rules: Seq<Rule>,
+}
+
+/// The reduced rules, each with its derivation, and the table over the normal words. (Green's reduced Gröbner bases for path algebras.)
+///
+/// `PathLimit` comes exactly where more than 4,096 paths are shorter than the bound.
+pub fn reduce_basis(alloc: Global, header: &Header) -> Result<Reduced, PathError>
+    requires { IsAllowed header.now }
+    ensures header { IfOk result (λ r. r.table.header ≡ header.now) }
+    ensures rules { IfOk result (λ r. AreReducedRules header.now r.rules) }
+    ensures claim { IfOk result (λ r. IsBasisClaim header.now r.table.words r.steps r.rules) }
+    ensures holds { IfOk result (λ r. MeetsClauses header.now r.table.words r.steps r.rules) }
+    ensures few_steps { IfOk result (λ r. length r.steps < 2 ^ 32) }
+    ensures few_rules { IfOk result (λ r. length r.rules ≤ 4096) }
+    ensures within { OnOk result (path_count header.now.quiver header.now.bound ≤ 4096) }
+    ensures refused { 4096 < path_count header.now.quiver header.now.bound → result ≡ Err (PathLimit (saturated (path_count header.now.quiver header.now.bound))) }
+    ensures memory { path_count header.now.quiver header.now.bound ≤ 4096 → IfErr result (λ e. e ≡ NoMemory) }
+{
+    let paths = paths_below(alloc, &header.quiver, header.bound, 4096)?;
+    let (rules, steps) = reduced_rules(alloc, header)?;
+    let words = words_among(alloc, &rules, &paths)?;
+    let table = table_of(alloc, header, &words, &steps, &rules)?;
+    Ok(Reduced {
+        table,
+        steps: Seq::from_vec(steps),
+        rules: Seq::from_vec(rules),
+    })
+}
+
+/// The reduced rules, and the steps that derive them.
+fn reduced_rules(alloc: Global, header: &Header) -> Result<(Vec<Rule>, Vec<Step>), AllocError>
+    requires allowed { IsAllowed header.now }
+    requires few { path_count header.now.quiver header.now.bound ≤ 4096 }
+    ensures rules { IfOk result (λ r. AreReducedRules header.now r.0.items) }
+    ensures lawful { IfOk result (λ r. IsDerivation header.now r.1.items) }
+    ensures derived { IfOk result (λ r. AreDerived header.now r.1.items r.0.items) }
+    ensures few_rules { IfOk result (λ r. length r.0.items ≤ 4096) }
+    ensures few_steps { IfOk result (λ r. length r.1.items < 2 ^ 32) }
+{
+    let completion = complete(alloc, header)?;
+    let mut steps = completion.steps;
+    let rules = reduce_tails(alloc, header, &completion.rules, &mut steps)?;
+    Ok((rules, steps))
+}
+
+/// The table over the normal words.
+fn table_of(
+    alloc: Global,
+    header: &Header,
+    words: &[Path],
+    steps: &[Step],
+    rules: &[Rule],
+) -> Result<Table, AllocError>
+    requires allowed { IsAllowed header.now }
+    requires claim { IsBasisClaim header.now words.now steps.now rules.now }
+    requires holds { MeetsClauses header.now words.now steps.now rules.now }
+    ensures header { IfOk result (λ table. table.header ≡ header.now) }
+    ensures words { IfOk result (λ table. table.words ≡ words.now) }
+{
+    match check_basis(alloc, header, words, steps, rules) {
+        Ok(table) => Ok(table),
+        Err(CheckBasisError::NoMemory) => Err(AllocError),
+        Err(CheckBasisError::Fault(_)) => {
+            prove!(false);
+            Err(AllocError)
+        }
+    }
+}
+
+/// The paths without a tip.
+fn words_among(alloc: Global, rules: &[Rule], paths: &[Path]) -> Result<Vec<Path>, AllocError>
+    requires { TipsAscend rules.now }
+    ensures { IfOk result (λ words. AreSifted rules.now paths.now (length paths.now) words.items) }
+{
+    let mut words = Vec::new(alloc);
+    for path in paths {
+        push_word(rules, path, &mut words)?;
+    }
+    Ok(words)
+}
+
+/// Adds the path, if it has no tip.
+fn push_word(rules: &[Rule], path: &Path, words: &mut Vec<Path>) -> Result<(), AllocError>
+    requires { TipsAscend rules.now }
+    ensures { (paths : List Path) (k : ℕ) → k < length paths → path.now ≡ slice_index_or paths k path.now → AreSifted rules.now paths k words.old.items → OnOk result (AreSifted rules.now paths (k + 1) words.new.items) }
+{
+    if has_tip(rules, path.arrows.as_slice()) {
+        return Ok(());
+    }
+    words.push(path.clone()?)?;
+    Ok(())
+}

@@ -1,0 +1,74 @@
+//! Rules with reduced tails.
+ghost use Rattle.std.specs.Prelude.{◌≡◌, ◌<◌, ◌≤◌, ◌+◌, ◌*◌, ◌^◌, length, Contains, IfOk, OnOk};
+ghost use Rattle.quiver_paths.specs.PathList.{path_count};
+ghost use Rattle.path_algebra.specs.Allowed.{IsAllowed};
+ghost use Rattle.path_algebra.specs.Rules.{rule_element};
+ghost use Rattle.path_basis.specs.Gaps.{AreTidy};
+ghost use Rattle.path_basis.specs.Derived.{IsDerivation, Derives, Lengthens, AreDerived};
+ghost use Rattle.path_basis.specs.Tails.{IsTailReduced, AreTailsReduced};
+
+use crate::reducing::{Derived, reduce};
+use crate::rule_elements::negatives;
+use path_algebra::{Element, Header, Rule, Step};
+use seq::Seq;
+use std::alloc::{AllocError, Global};
+
+/// The rules with what their tails become by reduction as tails, and the derivation of these.
+pub(crate) fn reduce_tails(
+    alloc: Global,
+    header: &Header,
+    rules: &[Rule],
+    steps: &mut Vec<Step>,
+) -> Result<Vec<Rule>, AllocError>
+    requires allowed { IsAllowed header.now }
+    requires few { path_count header.now.quiver header.now.bound ≤ 4096 }
+    requires tidy { AreTidy header.now rules.now }
+    requires lawful { IsDerivation header.now steps.old.items }
+    requires derived { AreDerived header.now steps.old.items rules.now }
+    requires count { length rules.now ≤ 4096 }
+    requires room { length steps.old.items ≤ 131136 * 4096 }
+    ensures reduced { IfOk result (λ new. AreTailsReduced header.now rules.now (length rules.now) new.items) }
+    ensures lawful { OnOk result (IsDerivation header.now steps.new.items) }
+    ensures derived { IfOk result (λ new. AreDerived header.now steps.new.items new.items) }
+    ensures count { OnOk result (length steps.new.items ≤ 131136 * 8192) }
+{
+    let mut reduced = Vec::new(alloc);
+    for rule in rules {
+        let with_tail = with_reduced_tail(alloc, header, rules, steps, rule)?;
+        reduced.push(with_tail)?;
+    }
+    Ok(reduced)
+}
+
+/// One of the rules, with what its tail becomes by reduction as its tail.
+fn with_reduced_tail(
+    alloc: Global,
+    header: &Header,
+    rules: &[Rule],
+    steps: &mut Vec<Step>,
+    rule: &Rule,
+) -> Result<Rule, AllocError>
+    requires allowed { IsAllowed header.now }
+    requires few { path_count header.now.quiver header.now.bound ≤ 4096 }
+    requires tidy { AreTidy header.now rules.now }
+    requires listed { Contains rules.now rule.now }
+    requires lawful { IsDerivation header.now steps.old.items }
+    requires derived { AreDerived header.now steps.old.items rules.now }
+    requires room { length steps.old.items + 131072 < 2 ^ 32 }
+    ensures reduced { IfOk result (λ new. IsTailReduced header.now rules.now rule.now new) }
+    ensures derives { IfOk result (λ new. Derives header.now steps.new.items new.step (rule_element header.now new)) }
+    ensures count { OnOk result (length steps.new.items ≤ length steps.old.items + 131072) }
+    ensures lengthens { OnOk result (Lengthens steps.old.items steps.new.items) }
+{
+    let terms = negatives(alloc, header, rule.tail.terms.as_slice())?;
+    let step = rule.step;
+    let rest = reduce(alloc, header, rules, steps, Derived { terms, step })?;
+    let tail = negatives(alloc, header, &rest.terms)?;
+    let tip = rule.tip.clone()?;
+    let terms = Seq::from_vec(tail);
+    Ok(Rule {
+        tip,
+        tail: Element { terms },
+        step: rest.step,
+    })
+}
