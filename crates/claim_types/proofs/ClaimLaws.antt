@@ -5,14 +5,14 @@ use Rattle.std.proofs.lemmas.Bool.{cases_lt}
 use Rattle.std.proofs.lemmas.List.Elements.{All-weaker}
 use Rattle.quiver_paths.specs.declared.Path.{Path}
 use Rattle.quiver_paths.specs.Path.{IsPath}
-use Rattle.alg_table.specs.declared.Header.{Header}
-use Rattle.alg_table.specs.declared.rules.Rule.{Rule}
-use Rattle.alg_table.specs.declared.rules.Step.{Step}
-use Rattle.alg_table.specs.Allowed.{IsAllowed}
-use Rattle.alg_table.specs.Words.{IsShortPath}
-use Rattle.alg_table.specs.Rules.{AreElementTerms}
-use Rattle.alg_table.specs.BasisClauses.{MeetsClauses, IsBasisClaim}
-use Rattle.alg_table.proofs.ClausesSuffice.{are_sound, words_are_normal, words_are_basis, rules_are_reduced}
+use Rattle.path_algebra.specs.declared.Header.{Header}
+use Rattle.path_algebra.specs.declared.rules.Rule.{Rule}
+use Rattle.path_algebra.specs.declared.rules.Step.{Step}
+use Rattle.path_algebra.specs.Allowed.{IsAllowed}
+use Rattle.path_algebra.specs.Words.{IsShortPath}
+use Rattle.path_algebra.specs.Rules.{AreElementTerms}
+use Rattle.path_algebra.specs.BasisClauses.{MeetsClauses, IsBasisClaim}
+use Rattle.path_algebra.proofs.ClausesSuffice.{are_sound, words_are_normal, words_are_basis, rules_are_reduced}
 use Rattle.claim_types.specs.declared.claims.Claim.{Claim}
 use Rattle.claim_types.specs.declared.claims.Claim.TheVariants.{Basis}
 use Rattle.claim_types.specs.declared.claims.Record.{Record}

@@ -1,10 +1,10 @@
 -- What the claims of a report say.
 use Rattle.std.specs.Prelude.{List}
 use Rattle.quiver_paths.specs.declared.Path.{Path}
-use Rattle.alg_table.specs.declared.Header.{Header}
-use Rattle.alg_table.specs.declared.rules.Rule.{Rule}
-use Rattle.alg_table.specs.Words.{AreNormalWords, IsBasis}
-use Rattle.alg_table.specs.Rules.{AreReducedRules}
+use Rattle.path_algebra.specs.declared.Header.{Header}
+use Rattle.path_algebra.specs.declared.rules.Rule.{Rule}
+use Rattle.path_algebra.specs.Words.{AreNormalWords, IsBasis}
+use Rattle.path_algebra.specs.Rules.{AreReducedRules}
 use Rattle.claim_types.specs.declared.claims.Claim.{Claim}
 use Rattle.claim_types.specs.declared.claims.Claim.TheVariants.{Basis}
 use Rattle.claim_types.specs.declared.reports.Report.{Report}

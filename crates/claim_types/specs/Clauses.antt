@@ -1,7 +1,7 @@
 -- The finite conditions on the printed numbers of a claim, by which a claim is checked, and the first of them that fails.
-use Rattle.alg_table.specs.BasisClauses.{MeetsClauses, IsFirstFault}
-use Rattle.alg_table.specs.declared.rules.BasisFault.{BasisFault}
-use Rattle.alg_table.specs.declared.rules.BasisFault.TheVariants as fault
+use Rattle.path_algebra.specs.BasisClauses.{MeetsClauses, IsFirstFault}
+use Rattle.path_algebra.specs.declared.rules.BasisFault.{BasisFault}
+use Rattle.path_algebra.specs.declared.rules.BasisFault.TheVariants as fault
 use Rattle.claim_types.specs.declared.claims.Claim.{Claim}
 use Rattle.claim_types.specs.declared.claims.Claim.TheVariants.{Basis}
 use Rattle.claim_types.specs.declared.reports.Report.{Report}

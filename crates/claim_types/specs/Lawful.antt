@@ -2,14 +2,14 @@
 use Rattle.std.specs.Prelude.{ℕ, ⊤, ◌≡◌, ◌≢◌, ◌<◌, ◌≤◌, ◌^◌, List, [], ◌∷◌, length, All, AllPairs}
 use Rattle.quiver_paths.specs.declared.Path.{Path}
 use Rattle.quiver_paths.specs.Path.{IsPath, path_length}
-use Rattle.alg_table.specs.declared.Header.{Header}
-use Rattle.alg_table.specs.declared.rules.Rule.{Rule}
-use Rattle.alg_table.specs.declared.rules.Step.{Step}
-use Rattle.alg_table.specs.Allowed.{IsAllowed}
-use Rattle.alg_table.specs.Words.{IsShortPath}
-use Rattle.alg_table.specs.Rules.{AreElementTerms}
-use Rattle.alg_table.specs.Derivations.{IsNumber, AreSteps}
-use Rattle.alg_table.specs.BasisClauses.{HasFactor}
+use Rattle.path_algebra.specs.declared.Header.{Header}
+use Rattle.path_algebra.specs.declared.rules.Rule.{Rule}
+use Rattle.path_algebra.specs.declared.rules.Step.{Step}
+use Rattle.path_algebra.specs.Allowed.{IsAllowed}
+use Rattle.path_algebra.specs.Words.{IsShortPath}
+use Rattle.path_algebra.specs.Rules.{AreElementTerms}
+use Rattle.path_algebra.specs.Derivations.{IsNumber, AreSteps}
+use Rattle.path_algebra.specs.BasisClauses.{HasFactor}
 use Rattle.claim_types.specs.declared.claims.Claim.{Claim}
 use Rattle.claim_types.specs.declared.claims.Claim.TheVariants.{Basis}
 use Rattle.claim_types.specs.declared.claims.Record.{Record}

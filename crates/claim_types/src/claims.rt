@@ -1,6 +1,6 @@
 //! Claims and the records that carry them.
 
-use alg_table::{Rule, Step};
+use path_algebra::{Rule, Step};
 use quiver_paths::Path;
 use seq::Seq;
 

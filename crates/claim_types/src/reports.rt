@@ -1,7 +1,7 @@
 //! Reports: the records of a script in their order, and how they end.
 
 use super::claims::Record;
-use alg_table::Header;
+use path_algebra::Header;
 use seq::Seq;
 
 /// Why a statement was refused.

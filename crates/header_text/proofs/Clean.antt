@@ -10,7 +10,7 @@ use Rattle.std.proofs.lemmas.List.Elements.{All-nil, All-cons, All-head, All-tai
 use Rattle.quiver_paths.specs.declared.Arrow.{Arrow}
 use Rattle.quiver_paths.specs.declared.Quiver.{Quiver}
 use Rattle.quiver_paths.specs.Name.{IsName, is_name_byte}
-use Rattle.alg_table.specs.Allowed.{IsArrowName}
+use Rattle.path_algebra.specs.Allowed.{IsArrowName}
 use Rattle.text_lines.specs.Parts.{joined, Lacks}
 use Rattle.text_lines.proofs.Cutting.{eqb_same}
 use Rattle.text_lines.proofs.Digits.{decimal_is_written}

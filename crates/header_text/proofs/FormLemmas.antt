@@ -6,7 +6,7 @@ use Rattle.std.specs.declared.option.Option.{Option}
 use Rattle.linear_algebra.specs.Field.{Gf, f2, f3, f4, f5, f7, f8, f9, f11, f13, f16, f25, f27, order}
 use Rattle.fp_linear.specs.Sizes.{field_of}
 use Rattle.quiver_paths.specs.declared.Arrow.{Arrow}
-use Rattle.alg_table.specs.declared.Relation.{Relation}
+use Rattle.path_algebra.specs.declared.Relation.{Relation}
 use Rattle.text_lines.specs.Reading.{IsDetermined}
 use Rattle.text_lines.specs.Forms.{IsUnambiguous}
 use Rattle.text_lines.specs.Strict.{strict_tokens}

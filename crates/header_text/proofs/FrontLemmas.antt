@@ -14,10 +14,10 @@ use Rattle.quiver_paths.specs.Quiver.{HasEnds, vertex_count}
 use Rattle.quiver_paths.specs.Path.{IsPath}
 use Rattle.quiver_paths.proofs.QuiverLemmas.{HasEnds-from_all, all_from_HasEnds}
 use Rattle.quiver_paths.proofs.ListLemmas.{length-pushed}
-use Rattle.alg_table.specs.declared.Term.{Term}
-use Rattle.alg_table.specs.declared.Relation.{Relation}
-use Rattle.alg_table.specs.declared.Header.{Header}
-use Rattle.alg_table.specs.Allowed.{IsAllowed, IsTerm, IsRelation, IsArrowName}
+use Rattle.path_algebra.specs.declared.Term.{Term}
+use Rattle.path_algebra.specs.declared.Relation.{Relation}
+use Rattle.path_algebra.specs.declared.Header.{Header}
+use Rattle.path_algebra.specs.Allowed.{IsAllowed, IsTerm, IsRelation, IsArrowName}
 use Rattle.header_text.specs.declared.forms.Form.{Form}
 use Rattle.header_text.specs.declared.forms.Form.TheVariants.{Field, Vertex, Arrow as ArrowForm, Bound, Relation as RelationForm}
 use Rattle.header_text.specs.Spelling.{vertex_name, arrow_name, path_text_from, field_line, vertex_line, arrow_line, bound_line, relation_line, header_lines}

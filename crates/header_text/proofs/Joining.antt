@@ -5,8 +5,8 @@ use Rattle.std.proofs.Math.Dec.{eqb-suc-zero}
 use Rattle.std.specs.List.{concat}
 use Rattle.text_lines.specs.Parts.{joined}
 use Rattle.text_lines.specs.Strict.{strict_line}
-use Rattle.alg_table.specs.declared.Header.{Header}
-use Rattle.alg_table.specs.declared.Relation.{Relation}
+use Rattle.path_algebra.specs.declared.Header.{Header}
+use Rattle.path_algebra.specs.declared.Relation.{Relation}
 use Rattle.quiver_paths.specs.declared.Name.{Name}
 use Rattle.header_text.specs.Spelling.{plus_each, plus_between, text_of, header_text, field_line, vertex_line, arrow_line, bound_line, relation_line}
 

@@ -7,10 +7,10 @@ use Rattle.std.proofs.lemmas.List.Elements.{All-head, All-tail, All-push}
 use Rattle.linear_algebra.specs.Field.{order}
 use Rattle.quiver_paths.specs.declared.Path.{Path}
 use Rattle.quiver_paths.specs.Path.{path_length}
-use Rattle.alg_table.specs.declared.Term.{Term}
-use Rattle.alg_table.specs.declared.Relation.{Relation}
-use Rattle.alg_table.specs.declared.Header.{Header}
-use Rattle.alg_table.specs.Allowed.{IsTerm, IsParallel, IsRelation}
+use Rattle.path_algebra.specs.declared.Term.{Term}
+use Rattle.path_algebra.specs.declared.Relation.{Relation}
+use Rattle.path_algebra.specs.declared.Header.{Header}
+use Rattle.path_algebra.specs.Allowed.{IsTerm, IsParallel, IsRelation}
 use Rattle.text_lines.specs.Parts.{Lacks}
 use Rattle.header_text.specs.Spelling.{path_text, coefficient_text, term_text, terms_arguments, plus_each}
 use Rattle.header_text.specs.Named.{IsNamed, IsLongPath, IsCoefficientThen, AreTerms, AreRelated}

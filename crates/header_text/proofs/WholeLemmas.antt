@@ -11,10 +11,10 @@ use Rattle.quiver_paths.specs.declared.Quiver.{Quiver}
 use Rattle.quiver_paths.specs.Name.{IsName}
 use Rattle.quiver_paths.proofs.QuiverLemmas.{all_from_HasEnds}
 use Rattle.quiver_paths.proofs.ListLemmas.{AllPairs-head, AllPairs-tail, Contains-head, Contains-behind}
-use Rattle.alg_table.specs.declared.Term.{Term}
-use Rattle.alg_table.specs.declared.Relation.{Relation}
-use Rattle.alg_table.specs.declared.Header.{Header}
-use Rattle.alg_table.specs.Allowed.{IsAllowed, IsTerm, IsRelation, IsArrowName}
+use Rattle.path_algebra.specs.declared.Term.{Term}
+use Rattle.path_algebra.specs.declared.Relation.{Relation}
+use Rattle.path_algebra.specs.declared.Header.{Header}
+use Rattle.path_algebra.specs.Allowed.{IsAllowed, IsTerm, IsRelation, IsArrowName}
 use Rattle.text_lines.specs.Lines.{lines}
 use Rattle.text_lines.specs.Parts.{Lacks, spaced}
 use Rattle.text_lines.specs.Strict.{strict_line}
@@ -41,7 +41,7 @@ use Rattle.header_text.proofs.FrontLemmas.{front_after, lines_after, allowed_at_
 strict_lines : List (List (List ℕ)) → List (List ℕ)
 strict_lines ls = map strict_line ls
 
-read_lines_are : (p q : Part) (ls : List (List ℕ)) → IsFront p → Reads Step p ls q → IsFront q × (map strict_line (part_lines q) ≡ map strict_line (part_lines p) ++ ls)
+pub read_lines_are : (p q : Part) (ls : List (List ℕ)) → IsFront p → Reads Step p ls q → IsFront q × (map strict_line (part_lines q) ≡ map strict_line (part_lines p) ++ ls)
 read_lines_are p q [] front reads = (subst IsFront (sym reads) front, ap (λ r. map strict_line (part_lines r)) reads ∙ sym (append-nil (map strict_line (part_lines p))))
 read_lines_are p q (line ∷ ls) front reads =
     let x = reads.1.step.form in
@@ -63,7 +63,7 @@ read_is_spelled s q text start whole =
 
 -- Completeness.
 
-IsNamed-allowed : (h : Header) → IsAllowed h → IsNamed h.quiver
+pub IsNamed-allowed : (h : Header) → IsAllowed h → IsNamed h.quiver
 IsNamed-allowed h is = record {
   vertices_limit = is.quiver.vertices_limit;
   arrows_limit = is.quiver.arrows_limit;
@@ -256,14 +256,14 @@ reads_header s h start is =
     (stage f [] [] 0 [], subst (λ q. Step s (strict_line (field_line f)) q) (begun_stage s f start) first, subst (λ ls. Reads Step (stage f [] [] 0 []) ls record { is_begun = true; header = h }) lines' three)
 
 -- the lines of a text of lines without a line feed inside
-lines_of_text : (ls : List (List (List ℕ))) → All (All (Lacks 10)) ls → lines (text_of ls) ≡ map strict_line ls
+pub lines_of_text : (ls : List (List (List ℕ))) → All (All (Lacks 10)) ls → lines (text_of ls) ≡ map strict_line ls
 lines_of_text [] all = refl
 lines_of_text (l ∷ ls) all =
     ap lines (append_assoc (spaced l) (10 ∷ []) (text_of ls))
     ∙ (lines-cut (spaced l) (text_of ls) (joined_lacks 10 32 refl l (All-head (All (Lacks 10)) l ls all))
     ∙ ap (λ r. strict_line l ∷ r) (lines_of_text ls (All-tail (All (Lacks 10)) l ls all)))
 
-header_lacks : (h : Header) → IsAllowed h → All (All (Lacks 10)) (header_lines h)
+pub header_lacks : (h : Header) → IsAllowed h → All (All (Lacks 10)) (header_lines h)
 header_lacks h is =
     let P = All (Lacks 10) in
     let named = IsNamed-allowed h is in

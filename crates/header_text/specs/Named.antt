@@ -7,9 +7,9 @@ use Rattle.quiver_paths.specs.declared.Quiver.{Quiver}
 use Rattle.quiver_paths.specs.Quiver.{HasEnds, vertex_count, arrow_count}
 use Rattle.quiver_paths.specs.Path.{IsPath}
 use Rattle.quiver_paths.specs.Name.{IsName}
-use Rattle.alg_table.specs.declared.Term.{Term}
-use Rattle.alg_table.specs.declared.Header.{Header}
-use Rattle.alg_table.specs.Allowed.{IsArrowName, IsTerm, IsParallel}
+use Rattle.path_algebra.specs.declared.Term.{Term}
+use Rattle.path_algebra.specs.declared.Header.{Header}
+use Rattle.path_algebra.specs.Allowed.{IsArrowName, IsTerm, IsParallel}
 use Rattle.text_lines.specs.Parts.{Lacks}
 use Rattle.header_text.specs.Spelling.{coefficient_text}
 

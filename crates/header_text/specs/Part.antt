@@ -1,13 +1,14 @@
 -- What a reader of headers has read so far, and which lines may follow it.
 use Rattle.std.specs.Prelude.{ℕ, ◌≡◌, ◌≢◌, ◌<◌, ◌≤◌, Bool, true, false, List, [], ◌∷◌, ◌++◌, length, All, map, ◌==◌, if◌then◌else◌}
+use Rattle.linear_algebra.specs.Field.{f2}
 use Rattle.quiver_paths.specs.declared.Arrow.{Arrow}
 use Rattle.quiver_paths.specs.declared.Name.{Name}
 use Rattle.quiver_paths.specs.declared.Quiver.{Quiver}
 use Rattle.quiver_paths.specs.Quiver.{vertex_count}
 use Rattle.quiver_paths.specs.Name.{IsName}
-use Rattle.alg_table.specs.declared.Relation.{Relation}
-use Rattle.alg_table.specs.declared.Header.{Header}
-use Rattle.alg_table.specs.Allowed.{IsRelation, IsArrowName}
+use Rattle.path_algebra.specs.declared.Relation.{Relation}
+use Rattle.path_algebra.specs.declared.Header.{Header}
+use Rattle.path_algebra.specs.Allowed.{IsRelation, IsArrowName}
 use Rattle.text_lines.specs.Forms.{StepByForm}
 use Rattle.text_lines.specs.Strict.{strict_tokens}
 use Rattle.header_text.specs.declared.forms.Form.{Form}
@@ -102,6 +103,10 @@ pub record IsStart (p : Part) : Type 0 where
   pub no_arrow : p.header.quiver.arrows ≡ []
   pub unbound : p.header.bound ≡ 0
   pub no_relation : p.header.relations ≡ []
+
+-- before the first line, with the field that stands there until one is read
+abbrev pub start : Part
+start = record { is_begun = false; header = record { field = f2; quiver = record { vertices = []; arrows = [] }; bound = 0; relations = [] } }
 
 -- what holds of each front of a header
 pub record IsFront (p : Part) : Type 0 where

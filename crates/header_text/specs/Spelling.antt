@@ -6,9 +6,9 @@ use Rattle.linear_algebra.specs.Field.{Gf, order}
 use Rattle.quiver_paths.specs.declared.Arrow.{Arrow}
 use Rattle.quiver_paths.specs.declared.Quiver.{Quiver}
 use Rattle.quiver_paths.specs.declared.Path.{Path}
-use Rattle.alg_table.specs.declared.Term.{Term}
-use Rattle.alg_table.specs.declared.Relation.{Relation}
-use Rattle.alg_table.specs.declared.Header.{Header}
+use Rattle.path_algebra.specs.declared.Term.{Term}
+use Rattle.path_algebra.specs.declared.Relation.{Relation}
+use Rattle.path_algebra.specs.declared.Header.{Header}
 use Rattle.text_lines.specs.Parts.{joined}
 use Rattle.text_lines.specs.Strict.{strict_line}
 

@@ -5,7 +5,7 @@ ghost use Rattle.quiver_paths.specs.Name.{IsName};
 ghost use Rattle.quiver_paths.specs.Quiver.{vertex_count};
 ghost use Rattle.quiver_paths.specs.declared.Name.{Name};
 ghost use Rattle.quiver_paths.specs.declared.Arrow.{Arrow};
-ghost use Rattle.alg_table.specs.Allowed.{is_letter, IsArrowName};
+ghost use Rattle.path_algebra.specs.Allowed.{is_letter, IsArrowName};
 ghost use Rattle.header_text.specs.Spelling.{vertex_name, field_arguments, vertex_arguments, arrow_arguments};
 ghost use Rattle.header_text.specs.Named.{IsNamed};
 ghost use Rattle.header_text.specs.Part.{IsArrowOf, AreVertices};
@@ -17,7 +17,7 @@ use quiver_paths::{Arrow, Name, Quiver};
 use text_lines::Parts;
 
 /// The number, at most `most`, that is all that is left.
-pub(crate) fn only_number(tokens: Parts<'_>, most: u64) -> Option<u64>
+pub fn only_number(tokens: Parts<'_>, most: u64) -> Option<u64>
     ensures { Reads (λ (n : ℕ). n ≤ most) (λ (n : ℕ). decimal n ∷ []) tokens.entry result }
 {
     let mut tokens = tokens;

@@ -1,6 +1,6 @@
 //! The forms of the lines of a header.
-use alg_table::Relation;
 use fp_linear::Field;
+use path_algebra::Relation;
 use quiver_paths::{Arrow, Name};
 
 /// A line of a header without its spelling.

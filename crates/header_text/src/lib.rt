@@ -8,12 +8,12 @@ mod terms;
 mod tokens;
 mod writing;
 
-pub use arguments::{is_new_arrow, is_new_vertex};
+pub use arguments::{is_new_arrow, is_new_vertex, only_number};
 pub use forms::Form;
 pub use reader::{HeaderReader, one_header, read_header};
 pub use terms::{are_related, has_term_length};
-pub use tokens::{arrow_place, read_path, vertex_place};
-pub use writing::{arrow_text, push_header, push_path, vertex_text};
+pub use tokens::{arrow_place, cut_coefficient, read_path, vertex_place};
+pub use writing::{arrow_text, push_header, push_path, push_terms, vertex_text};
 
 #[cfg(test)]
 mod tests;

@@ -1,10 +1,10 @@
 //! Reading a header line by line.
 ghost use Rattle.std.specs.Prelude.{ℕ, ◌≡◌, ◌<◌, ◌+◌, ◌^◌, ◌∷◌, ◌↔◌, List, codes, length, IfOk, IfErr, OnOk, IsTrue, MatchBool};
-ghost use Rattle.alg_table.specs.declared.Header.{Header};
-ghost use Rattle.alg_table.specs.Allowed.{IsAllowed};
+ghost use Rattle.path_algebra.specs.declared.Header.{Header};
+ghost use Rattle.path_algebra.specs.Allowed.{IsAllowed};
 ghost use Rattle.header_text.specs.Spelling.{header_text};
 ghost use Rattle.header_text.specs.Reading.{Reads};
-ghost use Rattle.header_text.specs.Part.{Part, IsStart, Fits, tokens_of, after, Step, MayEnd, IsFront};
+ghost use Rattle.header_text.specs.Part.{Part, IsStart, start, Fits, tokens_of, after, Step, MayEnd, IsFront};
 ghost use Rattle.header_text.specs.Refused.{IsNoHeader};
 
 use crate::arguments::{
@@ -12,8 +12,8 @@ use crate::arguments::{
 };
 use crate::forms::Form;
 use crate::terms::read_relation;
-use alg_table::Header;
 use fp_linear::Field;
+use path_algebra::Header;
 use quiver_paths::Quiver;
 use seq::Seq;
 use std::alloc::{AllocError, Global};
@@ -41,7 +41,8 @@ impl Model for HeaderReader {
 impl HeaderReader {
     /// A reader that has read nothing.
     pub fn new(alloc: Global) -> HeaderReader
-        ensures { IsStart result }
+        ensures unread { IsStart result }
+        ensures value { result ≡ start }
     {
         let field = match Field::of(2) {
             Some(field) => field,
@@ -62,6 +63,14 @@ impl HeaderReader {
             is_begun: false,
             header,
         }
+    }
+
+    /// What was read so far.
+    pub fn header(&self) -> &Header
+        ensures same { result.now ≡ self.now.header }
+        ensures front { IsFront self.now }
+    {
+        &self.header
     }
 
     /// What was read.

@@ -2,15 +2,15 @@
 ghost use Rattle.std.specs.Prelude.{ℕ, ◌≡◌, ◌≢◌, ◌<◌, ◌≤◌, [], ◌∷◌, ◌++◌, ◌↔◌, List, length, slice_index_or, All, AllPairs, IfOk, IfSome, IfNone, IsTrue};
 ghost use Rattle.linear_algebra.specs.Field.{order};
 ghost use Rattle.quiver_paths.specs.Path.{path_length};
-ghost use Rattle.alg_table.specs.declared.Term.{Term};
-ghost use Rattle.alg_table.specs.declared.Relation.{Relation};
-ghost use Rattle.alg_table.specs.Allowed.{IsTerm, IsParallel, IsRelation};
+ghost use Rattle.path_algebra.specs.declared.Term.{Term};
+ghost use Rattle.path_algebra.specs.declared.Relation.{Relation};
+ghost use Rattle.path_algebra.specs.Allowed.{IsTerm, IsParallel, IsRelation};
 ghost use Rattle.header_text.specs.Spelling.{term_text, terms_arguments};
 ghost use Rattle.header_text.specs.Named.{IsNamed, IsLongPath, IsCoefficientThen, AreTerms, AreRelated};
 ghost use Rattle.header_text.specs.Reading.{Reads, ReadsFirst};
 
 use crate::tokens::{cut_coefficient, read_path};
-use alg_table::{Header, Relation, Term};
+use path_algebra::{Header, Relation, Term};
 use quiver_paths::Path;
 use seq::Seq;
 use std::alloc::{AllocError, Global};

@@ -98,7 +98,7 @@ pub fn read_path(alloc: Global, quiver: &Quiver, token: &[u8]) -> Result<Option<
 }
 
 /// The coefficient in front of a token, and the token behind it.
-pub(crate) fn cut_coefficient(field: Field, token: &[u8]) -> Option<(u8, &[u8])>
+pub fn cut_coefficient(field: Field, token: &[u8]) -> Option<(u8, &[u8])>
     ensures cut { IfSome result (λ r. IsCoefficientThen (order field) token.now r.0 r.1.now) }
     ensures none { IfNone result ((c : ℕ) (rest : List ℕ) → 0 < c → c < order field → Lacks 42 rest → ¬ (token.now ≡ coefficient_text c ++ rest)) }
 {

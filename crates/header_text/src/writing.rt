@@ -4,8 +4,8 @@ ghost use Rattle.text_lines.specs.Strict.{strict_line};
 ghost use Rattle.text_lines.specs.Parts.{joined};
 ghost use Rattle.header_text.specs.Spelling.{vertex_name, arrow_name, arrows_text, path_text, coefficient_text, term_text, terms_arguments, field_line, vertex_line, arrow_line, bound_line, relation_line, text_of, header_text};
 
-use alg_table::{Header, Relation, Term};
 use fp_linear::Field;
+use path_algebra::{Header, Relation, Term};
 use quiver_paths::{Arrow, Name, Path, Quiver};
 use std::alloc::AllocError;
 use text_lines::push_numeral;
@@ -85,7 +85,7 @@ fn push_term(out: &mut Vec<u8>, quiver: &Quiver, term: &Term) -> Result<(), Allo
 }
 
 /// Adds the terms with ` + ` between each two.
-fn push_terms(out: &mut Vec<u8>, quiver: &Quiver, terms: &[Term]) -> Result<(), AllocError>
+pub fn push_terms(out: &mut Vec<u8>, quiver: &Quiver, terms: &[Term]) -> Result<(), AllocError>
     ensures { OnOk result (out.new.items ≡ out.old.items ++ joined 32 (terms_arguments quiver.now terms.now)) }
 {
     for (i, term) in terms.iter().enumerate() {

@@ -15,10 +15,10 @@ use Rattle.quiver_paths.specs.declared.Quiver.{Quiver}
 use Rattle.quiver_paths.specs.Quiver.{vertex_count, arrow_count, source, target}
 use Rattle.quiver_paths.specs.Path.{IsPath, Leads, path_length}
 use Rattle.quiver_paths.proofs.PathLemmas.{same_path}
-use Rattle.alg_table.specs.declared.Term.{Term}
-use Rattle.alg_table.specs.declared.Relation.{Relation}
-use Rattle.alg_table.specs.declared.Header.{Header}
-use Rattle.alg_table.specs.Allowed.{IsTerm, IsParallel, IsRelation}
+use Rattle.path_algebra.specs.declared.Term.{Term}
+use Rattle.path_algebra.specs.declared.Relation.{Relation}
+use Rattle.path_algebra.specs.declared.Header.{Header}
+use Rattle.path_algebra.specs.Allowed.{IsTerm, IsParallel, IsRelation}
 use Rattle.script_lang.specs.declared.line.Line.{Line}
 use Rattle.script_lang.specs.declared.line.Line.TheVariants as line
 use Rattle.script_lang.specs.declared.part.Place.{Place}

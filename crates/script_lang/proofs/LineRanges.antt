@@ -7,9 +7,9 @@ use Rattle.linear_algebra.specs.Field.{Gf, order}
 use Rattle.fp_linear.specs.Sizes.{field_of as field_of_size}
 use Rattle.quiver_paths.specs.Name.{IsName}
 use Rattle.quiver_paths.specs.declared.names.Reference.{Reference}
-use Rattle.alg_table.specs.Allowed.{IsArrowName}
-use Rattle.alg_table.specs.declared.Header.{Header}
-use Rattle.alg_table.specs.declared.Relation.{Relation}
+use Rattle.path_algebra.specs.Allowed.{IsArrowName}
+use Rattle.path_algebra.specs.declared.Header.{Header}
+use Rattle.path_algebra.specs.declared.Relation.{Relation}
 use Rattle.script_lang.specs.declared.types.AtLine.{AtLine}
 use Rattle.script_lang.specs.declared.types.Standard.{Standard}
 use Rattle.script_lang.specs.declared.types.StatementKind.{StatementKind}

@@ -10,7 +10,7 @@ use Rattle.text_lines.specs.Parts.{parts}
 use Rattle.text_lines.specs.Lines.{lines}
 use Rattle.text_lines.specs.Script.{is_blank, is_plain, is_some_word, words, without_last, script_bytes, uncommented, script_tokens}
 use Rattle.text_lines.specs.Reading.{Reads}
-use Rattle.alg_table.specs.declared.Header.{Header}
+use Rattle.path_algebra.specs.declared.Header.{Header}
 use Rattle.script_lang.specs.declared.types.AtLine.{AtLine}
 use Rattle.script_lang.specs.declared.types.Statement.{Statement}
 use Rattle.script_lang.specs.declared.line.Line.{Line}

@@ -6,7 +6,7 @@ use Rattle.std.specs.List.{list_all}
 use Rattle.std.proofs.lemmas.Bool.{ltb-true, leb-true, lt-ltb, le-leb}
 use Rattle.std.proofs.lemmas.List.Sums.{AllPass-from_list_all, list_all-from_AllPass}
 use Rattle.quiver_paths.specs.Name.{IsName, is_name_byte}
-use Rattle.alg_table.specs.Allowed.{is_letter}
+use Rattle.path_algebra.specs.Allowed.{is_letter}
 use Rattle.script_lang.specs.Tokens.{is_name, vertex_in, name_in}
 
 pub both : (a b : Bool) → (a && b) ≡ true → (a ≡ true) × (b ≡ true)

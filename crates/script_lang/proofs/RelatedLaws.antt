@@ -1,9 +1,9 @@
 -- Terms that make a relation.
 use Rattle.std.proofs.Common.{◌≡◌, ◌<◌, Bool, false, eqb, IsTrue, true≢false, ◌↔◌, List, [], ◌∷◌, length, All, sym, subst, arith}
-use Rattle.alg_table.specs.declared.Term.{Term}
-use Rattle.alg_table.specs.declared.Relation.{Relation}
-use Rattle.alg_table.specs.declared.Header.{Header}
-use Rattle.alg_table.specs.Allowed.{IsTerm, IsRelation}
+use Rattle.path_algebra.specs.declared.Term.{Term}
+use Rattle.path_algebra.specs.declared.Relation.{Relation}
+use Rattle.path_algebra.specs.declared.Header.{Header}
+use Rattle.path_algebra.specs.Allowed.{IsTerm, IsRelation}
 use Rattle.header_text.specs.Named.{AreRelated}
 
 some_terms : (terms : List Term) → false ≡ eqb (length terms) 0 → 0 < length terms

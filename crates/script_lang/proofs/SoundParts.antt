@@ -8,9 +8,9 @@ use Rattle.linear_algebra.specs.Field.{Gf}
 use Rattle.quiver_paths.specs.Name.{IsName}
 use Rattle.quiver_paths.specs.declared.naming.Name.{Name}
 use Rattle.quiver_paths.specs.declared.Arrow.{Arrow}
-use Rattle.alg_table.specs.declared.Header.{Header}
-use Rattle.alg_table.specs.declared.Relation.{Relation}
-use Rattle.alg_table.specs.Allowed.{IsAllowed, IsArrowName}
+use Rattle.path_algebra.specs.declared.Header.{Header}
+use Rattle.path_algebra.specs.declared.Relation.{Relation}
+use Rattle.path_algebra.specs.Allowed.{IsAllowed, IsArrowName}
 use Rattle.header_text.specs.declared.forms.Form.TheVariants as form
 use Rattle.header_text.specs.Part.{Part as Front, IsFront}
 use Rattle.header_text.proofs.FrontLemmas.{front_after, allowed_at_end, start_front}

@@ -4,7 +4,7 @@ use Rattle.std.specs.Prelude.{AllPairs}
 use Rattle.std.proofs.lemmas.List.Elements.{All-nil, All-push, All-weaker}
 use Rattle.std.proofs.lemmas.List.Quantifiers.{all_pairs_push}
 use Rattle.linear_algebra.specs.Field.{Gf}
-use Rattle.alg_table.specs.Allowed.{IsArrowName}
+use Rattle.path_algebra.specs.Allowed.{IsArrowName}
 use Rattle.script_lang.specs.declared.types.AtLine.{AtLine}
 use Rattle.script_lang.specs.declared.types.Statement.{Statement}
 use Rattle.script_lang.specs.declared.types.StatementKind.{StatementKind}

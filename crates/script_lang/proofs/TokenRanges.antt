@@ -11,7 +11,7 @@ use Rattle.linear_algebra.specs.FieldLaws.{order-pos}
 use Rattle.quiver_paths.specs.Name.{IsName}
 use Rattle.quiver_paths.specs.declared.names.Suffix.{Suffix}
 use Rattle.quiver_paths.specs.declared.names.Suffix.TheVariants.{Whole}
-use Rattle.alg_table.specs.Allowed.{IsArrowName, is_letter}
+use Rattle.path_algebra.specs.Allowed.{IsArrowName, is_letter}
 use Rattle.text_lines.specs.Parts.{parts, joined}
 use Rattle.text_lines.specs.Script.{number_in}
 use Rattle.text_lines.proofs.Digits.{written_is_decimal}

@@ -1,6 +1,6 @@
 -- What holds of each script that a text of at most 4,194,304 bytes reads as.
 use Rattle.std.specs.Prelude.{◌<◌, ◌≤◌, length, All, AllPairs}
-use Rattle.alg_table.specs.Allowed.{IsAllowed}
+use Rattle.path_algebra.specs.Allowed.{IsAllowed}
 use Rattle.script_lang.specs.declared.types.Script.{Script}
 use Rattle.script_lang.specs.declared.types.Statement.{Statement}
 use Rattle.script_lang.specs.Ranges.{IsStatement}

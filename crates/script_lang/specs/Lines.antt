@@ -3,8 +3,8 @@ use Rattle.std.specs.Prelude.{ℕ, ◌-◌, ◌==◌, List, [], ◌∷◌, codes
 use Rattle.std.specs.declared.option.Option.{Option}
 use Rattle.linear_algebra.specs.Field.{order}
 use Rattle.fp_linear.specs.Sizes.{field_of as field_of_size}
-use Rattle.alg_table.specs.declared.Header.{Header}
-use Rattle.alg_table.specs.declared.Relation.{Relation}
+use Rattle.path_algebra.specs.declared.Header.{Header}
+use Rattle.path_algebra.specs.declared.Relation.{Relation}
 use Rattle.script_lang.specs.declared.types.StatementKind.{StatementKind}
 use Rattle.script_lang.specs.declared.line.Line.{Line}
 use Rattle.script_lang.specs.declared.line.Line.TheVariants as line

@@ -5,8 +5,8 @@ use Rattle.linear_algebra.specs.Field.{Gf}
 use Rattle.quiver_paths.specs.declared.naming.Name.{Name}
 use Rattle.quiver_paths.specs.declared.Arrow.{Arrow}
 use Rattle.quiver_paths.specs.Quiver.{vertex_count, arrow_count}
-use Rattle.alg_table.specs.declared.Relation.{Relation}
-use Rattle.alg_table.specs.Allowed.{IsRelation, is_letter}
+use Rattle.path_algebra.specs.declared.Relation.{Relation}
+use Rattle.path_algebra.specs.Allowed.{IsRelation, is_letter}
 use Rattle.script_lang.specs.declared.types.AtLine.{AtLine}
 use Rattle.script_lang.specs.declared.types.Statement.{Statement}
 use Rattle.script_lang.specs.declared.types.StatementKind.{StatementKind}

@@ -6,7 +6,7 @@ use Rattle.quiver_paths.specs.Name.{IsName}
 use Rattle.quiver_paths.specs.declared.names.Suffix.{Suffix}
 use Rattle.quiver_paths.specs.declared.names.Suffix.TheVariants.{Part}
 use Rattle.quiver_paths.specs.declared.names.Reference.{Reference}
-use Rattle.alg_table.specs.Allowed.{IsArrowName}
+use Rattle.path_algebra.specs.Allowed.{IsArrowName}
 use Rattle.script_lang.specs.declared.types.AtLine.{AtLine}
 use Rattle.script_lang.specs.declared.types.StatementKind.{StatementKind}
 use Rattle.script_lang.specs.declared.types.StatementKind.TheVariants.{Rep, Std, Sum, Map, Kernel, Cokernel, Radical, Dual, Hom, Resolve, Ext, Decompose, Transpose, Tau, Taui, Ars}

@@ -5,7 +5,7 @@ use Rattle.std.specs.List.{list_all}
 use Rattle.std.specs.declared.option.Option.{Option}
 use Rattle.std.specs.Cmp.Lexicographic.{pointwise}
 use Rattle.quiver_paths.specs.Name.{is_name_byte}
-use Rattle.alg_table.specs.Allowed.{is_letter}
+use Rattle.path_algebra.specs.Allowed.{is_letter}
 use Rattle.quiver_paths.specs.declared.names.Suffix.{Suffix}
 use Rattle.quiver_paths.specs.declared.names.Suffix.TheVariants.{Whole, Map, Inv, Part}
 use Rattle.quiver_paths.specs.declared.names.Reference.{Reference}

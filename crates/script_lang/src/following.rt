@@ -1,6 +1,6 @@
 //! Lines that follow what has been read.
 ghost use Rattle.std.specs.Prelude.{◌≡◌, ◌≤◌, length, IfOk, MatchBool};
-ghost use Rattle.alg_table.specs.Allowed.{is_letter};
+ghost use Rattle.path_algebra.specs.Allowed.{is_letter};
 ghost use Rattle.script_lang.specs.Parts.{IsSmall, FitsField, with_field, FitsVertex, with_vertex, vertex_place, awaits_arrows, FitsArrow, with_arrow, FitsBound, with_bound, FitsRelation, with_relation, FitsBasis, with_basis, FitsStatement, opens, with_statement, kind_takes, takes_at, FitsAt, kind_with, place_with, with_at, is_block, FitsEnd, with_end, MayFollow, after};
 
 use super::line::Line;
@@ -8,9 +8,9 @@ use super::part::{Part, Place};
 use super::related::is_relation;
 use super::tokens::{is_word, letter};
 use super::types::{AtLine, Statement, StatementKind};
-use alg_table::Relation;
 use fp_linear::Field;
 use header_text::{is_new_arrow, is_new_vertex};
+use path_algebra::Relation;
 use quiver_paths::{Arrow, Name};
 use std::alloc::AllocError;
 use std::mem;

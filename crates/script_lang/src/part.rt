@@ -1,7 +1,7 @@
 //! What has been read of a script.
 
 use super::types::Statement;
-use alg_table::Header;
+use path_algebra::Header;
 use seq::Seq;
 
 /// Where a script stands: before its `field`, among its vertices, its arrows, its relations, its statements, or among the

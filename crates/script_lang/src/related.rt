@@ -1,10 +1,10 @@
 //! Whether terms make a relation.
 ghost use Rattle.std.specs.Prelude.{◌↔◌, All, IsTrue};
 ghost use Rattle.quiver_paths.specs.Path.{IsPath, Leads};
-ghost use Rattle.alg_table.specs.Allowed.{IsTerm, IsRelation};
+ghost use Rattle.path_algebra.specs.Allowed.{IsTerm, IsRelation};
 
-use alg_table::{Header, Relation, Term};
 use header_text::{are_related, has_term_length};
+use path_algebra::{Header, Relation, Term};
 use quiver_paths::{Path, Quiver};
 
 /// Whether the arrows lead from `start` to `end`, one behind the other.

@@ -7,8 +7,8 @@ ghost use Rattle.script_lang.specs.Arguments.{before};
 ghost use Rattle.script_lang.specs.Relations.{arrow_place, places_in, path_of, path_in, term_of, term_in, negative, is_plus, is_minus, next_signed, signed_terms, relation_of, relation_in};
 
 use super::tokens::{is_word, read_number};
-use alg_table::{Header, Relation, Term};
 use fp_linear::Field;
+use path_algebra::{Header, Relation, Term};
 use quiver_paths::{Arrow, Path, Quiver};
 use seq::Seq;
 use std::alloc::{AllocError, Global};

@@ -1,6 +1,6 @@
 //! The values of tokens.
 ghost use Rattle.std.specs.Prelude.{◌≡◌, ◌==◌, slice_index};
-ghost use Rattle.alg_table.specs.Allowed.{is_letter};
+ghost use Rattle.path_algebra.specs.Allowed.{is_letter};
 ghost use Rattle.script_lang.specs.Tokens.{is_word, vertex_in, name_in, within, number_to, suffix_in, part_of, with_suffix, reference_in};
 
 use quiver_paths::{Name, Reference, Suffix};

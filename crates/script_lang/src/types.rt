@@ -1,6 +1,6 @@
 //! What a script says.
 
-use alg_table::Header;
+use path_algebra::Header;
 use quiver_paths::{Name, Reference};
 use seq::Seq;
 

@@ -1,8 +1,8 @@
 use Rattle.std.proofs.Common.{◌≡◌, get_or, true, false, sym, subst, ◌∙◌}
 use Rattle.header_text.proofs.TermLemmas.{not_parallel}
-use Rattle.alg_table.specs.declared.Term.{Term}
+use Rattle.path_algebra.specs.declared.Term.{Term}
 use Rattle.std.proofs.lemmas.List.{get_or_default}
-use Rattle.alg_table.specs.Allowed.{IsParallel}
+use Rattle.path_algebra.specs.Allowed.{IsParallel}
 use Rattle.header_text.proofs.terms.are_parallel.Goals as goal
 
 pub returns-then-not-is_parallel : goal.returns-then-not-is_parallel

@@ -1,6 +1,6 @@
 use Rattle.std.proofs.Common.{ℕ, ◌<◌, get_or}
-use Rattle.alg_table.specs.declared.Term.{Term}
-use Rattle.alg_table.specs.Allowed.{IsParallel}
+use Rattle.path_algebra.specs.declared.Term.{Term}
+use Rattle.path_algebra.specs.Allowed.{IsParallel}
 use Rattle.header_text.proofs.terms.are_parallel.Given as goal
 
 abbrev pub invariant-loop-term : goal.invariant-loop-term

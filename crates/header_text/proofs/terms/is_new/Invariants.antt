@@ -1,5 +1,5 @@
 use Rattle.std.proofs.Common.{◌≡◌, ℕ, ◌<◌, get_or}
-use Rattle.alg_table.specs.declared.Term.{Term}
+use Rattle.path_algebra.specs.declared.Term.{Term}
 use Rattle.header_text.proofs.terms.is_new.Given as goal
 
 abbrev pub invariant-loop-j : goal.invariant-loop-j
