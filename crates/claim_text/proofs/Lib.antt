@@ -1,0 +1,16 @@
+pub mod Deciding
+pub mod DecidedPaths
+pub mod DecidedHeader
+pub mod WrittenLines
+pub mod PathReading
+pub mod StepReading
+pub mod RuleReading
+pub mod Reached
+pub mod EndReading
+pub mod TakenLines
+pub mod SoundReading
+pub mod Clear
+pub mod DecidedItems
+pub mod DecidedLines
+pub mod CompleteReading
+pub mod ReportLaws

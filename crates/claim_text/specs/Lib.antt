@@ -1,0 +1,8 @@
+pub mod Spelling
+pub mod Items
+pub mod Reading
+pub mod Part
+pub mod Steps
+pub mod Texts
+pub mod Determined
+pub mod Refusals

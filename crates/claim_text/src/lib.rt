@@ -1,0 +1,19 @@
+//! Reports as texts: their one spelling, writing it, and reading it.
+#![tactic(auto)]
+
+mod counts;
+mod ends;
+pub mod laws;
+mod part;
+mod paths;
+mod reader;
+mod rules;
+mod steps;
+mod taking;
+mod writing;
+
+pub use reader::{ReadTextError, read};
+pub use writing::{write, write_end, write_header, write_record};
+
+#[cfg(test)]
+mod tests;
