@@ -1,143 +1,231 @@
--- What follows from an answer.
-use Rattle.std.proofs.Common.{◌≡◌, ◌≢◌, ℕ, ◌+◌, ◌<◌, ◌≤◌, ◌^◌, Bool, true, false, List, [], ◌∷◌, ◌++◌, ◌⊎◌, map, length, get_or, Some, None, inl, inr, refl, sym, ap, ◌∙◌, subst, arith, append_assoc, append-nil}
+-- What the parts of a run of the program have written, put together.
+use Rattle.std.proofs.Common.{◌≡◌, ℕ, ◌+◌, ◌≤◌, List, ◌⊎◌, length, inl, inr, refl, sym, ap, ◌∙◌, subst}
+use Rattle.std.specs.Prelude.{⊤}
 use Rattle.std.specs.declared.option.Option.{Option}
-use Rattle.std.proofs.lemmas.List.{length-append, append_cancel_right}
-use Rattle.quiver_paths.specs.PathList.{path_count}
-use Rattle.alg_table.specs.declared.Header.{Header}
-use Rattle.alg_table.specs.Allowed.{IsAllowed}
-use Rattle.linear_algebra.specs.Field.{order}
 use Rattle.quiv_io.specs.Counts.{Rose}
-use Rattle.quiv_io.specs.Bytes.{Gives, IsAtEnd, Takes, TakesFront}
+use Rattle.quiv_io.specs.Bytes.{Takes, TakesFront}
 use Rattle.quiv_io.specs.Whole.{GivesAll, GivesBefore}
 use Rattle.quiv_io.specs.declared.whole.ReadError.TheVariants.{TooLong as ReadTooLong}
-use Rattle.header_text.specs.Spelling.{header_text}
-use Rattle.header_text.proofs.WholeLemmas.{one_text_one_header}
+use Rattle.script_lang.specs.declared.types.Script.{Script}
+use Rattle.script_lang.specs.Scripts.{IsScript, IsBadLine as IsBadScriptLine}
+use Rattle.claim_types.specs.declared.reports.End.{End}
+use Rattle.claim_types.specs.declared.reports.End.TheVariants as end
+use Rattle.claim_types.specs.declared.reports.Report.{Report}
+use Rattle.claim_text.specs.Spelling.{report_text}
+use Rattle.claim_types.specs.declared.verdicts.Verdict.TheVariants as verdict
+use Rattle.claim_types.specs.Verdicts.{IsVerdict}
+use Rattle.claim_types.proofs.ClaimLaws.{conditions_suffice}
+use Rattle.claim_text.specs.Texts.{IsTextOf}
+use Rattle.script_run.specs.Runs.{IsRightReport, IsWholeText, IsBegunText, RunsTo}
+use Rattle.script_run.specs.declared.ends.RunEnd.{RunEnd}
+use Rattle.script_run.specs.declared.ends.RunEnd.TheVariants as run
 use Rattle.quiv.specs.declared.outcome.Outcome.{Outcome}
-use Rattle.quiv.specs.declared.outcome.Outcome.TheVariants.{Done, Refused, OtherForm, TooLong, Usage, ReadFault, WriteFault, NoMemory}
-use Rattle.quiv.specs.declared.outcome.Why.{Why}
-use Rattle.quiv.specs.declared.outcome.Why.TheVariants.{PathLimit}
-use Rattle.quiv.specs.FirstForm.{IsFirstForm, basis_line, input_limit, path_limit}
-use Rattle.quiv.specs.Reports.{too_long_text, usage_text}
-use Rattle.quiv.specs.Answers.{IsDone, IsLimited, IsOther, IsRefusal, RunAnswers, AsksForRun}
-use Rattle.quiv.specs.Outcomes.{IsAnswered, IsTooLong, IsUsage, IsText, WritesWhole, WritesFront, Writes, HasCause, IsExpected, FrontWritten, Finishes}
+use Rattle.quiv.specs.declared.outcome.Outcome.TheVariants.{Done, Refused, Rejected, BadText, TooLong, Usage, ReadFault, WriteFault, NoMemory}
+use Rattle.quiv.specs.declared.modes.Mode.{Mode}
+use Rattle.quiv.specs.declared.modes.Mode.TheVariants.{Run, Check}
+use Rattle.quiv.specs.Modes.{AsksFor, input_limit}
+use Rattle.quiv.specs.Texts.{holds_text, bad_text, usage_text, too_long_text}
+use Rattle.quiv.specs.Answers.{Answers, RunAnswers, CheckAnswers, Begins}
+use Rattle.quiv.specs.Outcomes.{IsText, IsBegun, IsStopped, OfOutcome, Writes, HasCause}
+use Rattle.quiv.specs.Steps.{Finishes, FrontWritten, HasSinkCause, EndsWith, Refuses, run_outcome}
 
-module _ (words : List (List ℕ)) (left left' taken taken' : Option (List ℕ)) where
-  whole_written : (o : Outcome) (text : List ℕ) → IsText words left left' o text → Takes taken text taken' → Writes (IsText words left left') o taken taken'
+-- no answer ends so
+answers_no_fault : (mode : Mode) (input text : List ℕ) → Answers mode ReadFault input text → ⊥
+answers_no_fault Run input text a = a
+answers_no_fault Check input text a = a
+
+answers_no_write_fault : (mode : Mode) (input text : List ℕ) → Answers mode WriteFault input text → ⊥
+answers_no_write_fault Run input text a = a
+answers_no_write_fault Check input text a = a
+
+answers_memory : (mode : Mode) (input text : List ℕ) → Answers mode NoMemory input text → ⊥
+answers_memory Run input text a = a
+answers_memory Check input text a = a
+
+answers_length : (mode : Mode) (input text : List ℕ) → Answers mode TooLong input text → ⊥
+answers_length Run input text a = a
+answers_length Check input text a = a
+
+answers_words : (mode : Mode) (input text : List ℕ) → Answers mode Usage input text → ⊥
+answers_words Run input text a = a
+answers_words Check input text a = a
+
+-- ---- from an answer and what `finish` did to what was written
+
+module _ (Is : Outcome → List ℕ → Type 0) (Begun : List ℕ → Type 0) (Stopped : Type 0) (no_read : (text : List ℕ) → Is ReadFault text → ⊥) (no_write : (text : List ℕ) → Is WriteFault text → ⊥)
+    (no_memory : (text : List ℕ) → Is NoMemory text → ⊥) (taken taken' : Option (List ℕ)) where
+  whole_written : (o : Outcome) (text : List ℕ) → Is o text → Takes taken text taken' → Writes Is Begun Stopped o taken taken'
   whole_written Done text is takes = record { text = text; is = is; takes = takes }
   whole_written (Refused line why) text is takes = record { text = text; is = is; takes = takes }
-  whole_written OtherForm text is takes = record { text = text; is = is; takes = takes }
+  whole_written (Rejected claim which) text is takes = record { text = text; is = is; takes = takes }
+  whole_written (BadText line) text is takes = record { text = text; is = is; takes = takes }
   whole_written TooLong text is takes = record { text = text; is = is; takes = takes }
   whole_written Usage text is takes = record { text = text; is = is; takes = takes }
-  whole_written ReadFault text is takes = absurd is
-  whole_written WriteFault text is takes = absurd is
-  whole_written NoMemory text is takes = absurd is
+  whole_written ReadFault text is takes = absurd (no_read text is)
+  whole_written WriteFault text is takes = absurd (no_write text is)
+  whole_written NoMemory text is takes = absurd (no_memory text is)
 
-  -- what `finish` has written
-  pub finished : (o result : Outcome) (text : List ℕ) (old new : ℕ) → IsText words left left' o text → Finishes o text taken taken' old new result → Writes (IsText words left left') result taken taken'
-  finished o result text old new is (inl done) = subst (λ r. Writes (IsText words left left') r taken taken') (sym done.0) (whole_written o text is done.1)
+  sink_cause : (o : Outcome) (text : List ℕ) (old new : ℕ) → Is o text → HasSinkCause o old new
+  sink_cause Done text old new is = tt
+  sink_cause (Refused line why) text old new is = tt
+  sink_cause (Rejected claim which) text old new is = tt
+  sink_cause (BadText line) text old new is = tt
+  sink_cause TooLong text old new is = tt
+  sink_cause Usage text old new is = tt
+  sink_cause ReadFault text old new is = absurd (no_read text is)
+  sink_cause WriteFault text old new is = absurd (no_write text is)
+  sink_cause NoMemory text old new is = tt
+
+  pub finished : (o result : Outcome) (text : List ℕ) (old new : ℕ) → Is o text → Finishes o text taken taken' old new result → Writes Is Begun Stopped result taken taken'
+  finished o result text old new is (inl done) = subst (λ r. Writes Is Begun Stopped r taken taken') (sym done.0) (whole_written o text is done.1)
   finished o result text old new is (inr front) =
-      subst (λ r. Writes (IsText words left left') r taken taken') (sym front.0) record { outcome = o; text = text; is = is; front = front.1.front }
+      subst (λ r. Writes Is Begun Stopped r taken taken') (sym front.0) record { text = text; is = inl record { outcome = o; is = is }; front = front.1.front }
 
-cause_of : (words : List (List ℕ)) (left left' : Option (List ℕ)) (o : Outcome) (text : List ℕ) (a b c d : ℕ) → IsText words left left' o text → HasCause o a b c d
-cause_of words left left' Done text a b c d is = tt
-cause_of words left left' (Refused line why) text a b c d is = tt
-cause_of words left left' OtherForm text a b c d is = tt
-cause_of words left left' TooLong text a b c d is = tt
-cause_of words left left' Usage text a b c d is = tt
-cause_of words left left' ReadFault text a b c d is = absurd is
-cause_of words left left' WriteFault text a b c d is = absurd is
-cause_of words left left' NoMemory text a b c d is = tt
+  pub finished_cause : (o result : Outcome) (text : List ℕ) (old new : ℕ) → Is o text → Finishes o text taken taken' old new result → HasSinkCause result old new
+  finished_cause o result text old new is (inl done) = subst (λ r. HasSinkCause r old new) (sym done.0) (sink_cause o text old new is)
+  finished_cause o result text old new is (inr front) = subst (λ r. HasSinkCause r old new) (sym front.0) front.1.rose
 
-pub finished_cause : (words : List (List ℕ)) (left left' taken taken' : Option (List ℕ)) (o result : Outcome) (text : List ℕ) (a b old new : ℕ) → IsText words left left' o text
-    → Finishes o text taken taken' old new result → HasCause result a b old new
-finished_cause words left left' taken taken' o result text a b old new is (inl done) = subst (λ r. HasCause r a b old new) (sym done.0) (cause_of words left left' o text a b old new is)
-finished_cause words left left' taken taken' o result text a b old new is (inr front) = subst (λ r. HasCause r a b old new) (sym front.0) front.1.rose
+-- an answer that was written
+pub answer_written : (mode : Mode) (input : List ℕ) (taken taken' : Option (List ℕ)) (o result : Outcome) (text : List ℕ) (old new : ℕ) → Answers mode o input text
+    → Finishes o text taken taken' old new result → EndsWith mode input result taken taken' old new
+answer_written mode input taken taken' o result text old new is ends =
+    let Is : Outcome → List ℕ → Type 0 = λ p t. Answers mode p input t in
+    record {
+      writes = finished Is (Begins mode input) ⊤ (answers_no_fault mode input) (answers_no_write_fault mode input) (answers_memory mode input) taken taken' o result text old new is ends;
+      cause = finished_cause Is (Begins mode input) ⊤ (answers_no_fault mode input) (answers_no_write_fault mode input) (answers_memory mode input) taken taken' o result text old new is ends;
+    }
 
-pub answered_text : (words : List (List ℕ)) (left left' : Option (List ℕ)) (o : Outcome) (input text : List ℕ) → AsksForRun words → GivesAll left input left' → length input ≤ input_limit
-    → RunAnswers o input text → IsText words left left' o text
-answered_text words left left' Done input text asks read within answer = record { asks = asks; input = input; read = read; within = within; answer = answer }
-answered_text words left left' (Refused line why) input text asks read within answer = record { asks = asks; input = input; read = read; within = within; answer = answer }
-answered_text words left left' OtherForm input text asks read within answer = record { asks = asks; input = input; read = read; within = within; answer = answer }
-answered_text words left left' TooLong input text asks read within answer = absurd answer
-answered_text words left left' Usage input text asks read within answer = absurd answer
-answered_text words left left' ReadFault input text asks read within answer = absurd answer
-answered_text words left left' WriteFault input text asks read within answer = absurd answer
-answered_text words left left' NoMemory input text asks read within answer = absurd answer
+-- nothing was written for want of memory
+pub nothing_written : (mode : Mode) (input : List ℕ) (taken : Option (List ℕ)) (old new : ℕ) → EndsWith mode input NoMemory taken taken old new
+nothing_written mode input taken old new = record { writes = inl (tt, refl); cause = tt }
 
--- what was read of a source that tells all it has left
-read_all_of : (input given : List ℕ) (after : Option (List ℕ)) → GivesAll (Some input) given after → input ≡ given
-read_all_of input given None read = absurd read.0
-read_all_of input given (Some rest) read = read.0 ∙ (ap (λ r. given ++ r) read.1 ∙ append-nil given)
+pub refused_script : (input : List ℕ) (line : ℕ) (taken taken' : Option (List ℕ)) (old new : ℕ) (result : Outcome) → IsBadScriptLine input line
+    → Refuses line taken taken' old new result → EndsWith Run input result taken taken' old new
+refused_script input line taken taken' old new result bad (inl none) =
+    subst (λ r. EndsWith Run input r taken taken' old new) (sym none.0) record { writes = inl (tt, none.1); cause = tt }
+refused_script input line taken taken' old new result bad (inr ends) =
+    answer_written Run input taken taken' (BadText line) result (bad_text line) old new record { bad = bad; written = refl } ends
 
-read_part_of : (input given : List ℕ) (after : Option (List ℕ)) → Gives (Some input) given after → length given ≤ length input
-read_part_of input given None read = absurd read
-read_part_of input given (Some rest) read = let e = ap length read in let f = length-append given rest in omega arith
+-- ---- from the run of a script to what was written
 
-pub one_first_form : (input : List ℕ) (g h : Header) → IsFirstForm input g → IsFirstForm input h → g ≡ h
-one_first_form input g h a b = one_text_one_header g h a.allowed b.allowed (append_cancel_right (header_text g) (header_text h) basis_line (sym a.spelled ∙ b.spelled))
+module _ (input : List ℕ) (script : Script) (reads : IsScript input script) where
+  whole_of : (e : End) (report : Report) (text : List ℕ) → IsRightReport script report → report.end ≡ e → text ≡ report_text report → OfOutcome (λ o t. Answers Run o input t) text
+  whole_of end.Done report text right ends spelled = record { outcome = Done; is = record { script = script; reads = reads; report = report; right = right; ends = ends; spelled = spelled } }
+  whole_of (end.Refused line why) report text right ends spelled =
+      record { outcome = Refused line why; is = record { script = script; reads = reads; report = report; right = right; ends = ends; spelled = spelled } }
 
-done_few : (input given text : List ℕ) (h : Header) → input ≡ given → IsFirstForm input h → IsDone given text → path_count h.quiver h.bound ≤ path_limit
-done_few input given text h e first is =
-    let same : is.header ≡ h = one_first_form given is.header h is.first_form (subst (λ r. IsFirstForm r h) e first) in
-    subst (λ g. path_count g.quiver g.bound ≤ path_limit) same is.few
+  of_script : (text : List ℕ) → IsWholeText script text ⊎ IsBegunText script text → OfOutcome (λ o t. Answers Run o input t) text ⊎ Begins Run input text
+  of_script text (inl whole) = inl (whole_of whole.report.end whole.report text whole.right refl whole.spelled)
+  of_script text (inr begun) = inr record { script = script; reads = reads; begun = begun }
 
-refused_many : (input given text : List ℕ) (h : Header) (line : ℕ) (why : Why) → input ≡ given → IsFirstForm input h → IsRefusal line why given text → path_limit < path_count h.quiver h.bound
-refused_many input given text h line (PathLimit count) e first is =
-    let same : is.header ≡ h = one_first_form given is.header h is.first_form (subst (λ r. IsFirstForm r h) e first) in
-    subst (λ g. path_limit < path_count g.quiver g.bound) same is.many
+  pub run_written : (e : RunEnd) (taken taken' : Option (List ℕ)) (old new : ℕ) → RunsTo script e taken taken' old new → EndsWith Run input (run_outcome e) taken taken' old new
+  run_written (run.Done claims) taken taken' old new r = record {
+    writes = record {
+      text = report_text r.whole.report;
+      is = record { script = script; reads = reads; report = r.whole.report; right = r.whole.right; ends = r.whole.ends; spelled = refl };
+      takes = r.whole.takes;
+    };
+    cause = tt;
+  }
+  run_written (run.Refused line why) taken taken' old new r = record {
+    writes = record {
+      text = report_text r.report;
+      is = record { script = script; reads = reads; report = r.report; right = r.right; ends = r.ends; spelled = refl };
+      takes = r.takes;
+    };
+    cause = tt;
+  }
+  run_written run.WriteFault taken taken' old new r = record { writes = record { text = r.text; is = of_script r.text r.written; front = r.front }; cause = r.rose }
+  run_written run.NoMemory taken taken' old new (inl none) = record { writes = inl (tt, none); cause = tt }
+  run_written run.NoMemory taken taken' old new (inr b) =
+      record { writes = inr record { text = b.text; is = record { script = script; reads = reads; begun = b.begun }; takes = b.takes }; cause = tt }
 
--- input of the first form has the outcome that is expected of it
-pub as_expected : (words : List (List ℕ)) (input : List ℕ) (left left' taken taken' : Option (List ℕ)) (o : Outcome) (a b c d : ℕ) (h : Header) → Writes (IsText words left left') o taken taken' → HasCause o a b c d
-    → AsksForRun words → (Rose a b → ⊥) → (Rose c d → ⊥) → left ≡ Some input → length input ≤ input_limit → IsFirstForm input h → IsExpected h o
-as_expected words input left left' taken taken' Done a b c d h writes cause asks x y tells few first =
-    done_few input writes.is.input writes.text h (read_all_of input writes.is.input left' (subst (λ l. GivesAll l writes.is.input left') tells writes.is.read)) first writes.is.answer
-as_expected words input left left' taken taken' (Refused line why) a b c d h writes cause asks x y tells few first =
-    refused_many input writes.is.input writes.text h line why (read_all_of input writes.is.input left' (subst (λ l. GivesAll l writes.is.input left') tells writes.is.read)) first writes.is.answer
-as_expected words input left left' taken taken' OtherForm a b c d h writes cause asks x y tells few first =
-    let e = read_all_of input writes.is.input left' (subst (λ l. GivesAll l writes.is.input left') tells writes.is.read) in
-    writes.is.answer.other h (subst (λ r. IsFirstForm r h) e first)
-as_expected words input left left' taken taken' TooLong a b c d h writes cause asks x y tells few first =
-    let low = read_part_of input writes.is.input left' (subst (λ l. Gives l writes.is.input left') tells writes.is.read) in
-    let past = writes.is.past in
-    omega arith
-as_expected words input left left' taken taken' Usage a b c d h writes cause asks x y tells few first = writes.is.other asks
-as_expected words input left left' taken taken' ReadFault a b c d h writes cause asks x y tells few first = x cause
-as_expected words input left left' taken taken' WriteFault a b c d h writes cause asks x y tells few first = y cause
-as_expected words input left left' taken taken' NoMemory a b c d h writes cause asks x y tells few first = tt
+-- ---- from the work on an input to the whole run
 
--- the five pieces of a report
-pub pieces_joined : (a b c d e f : List ℕ) (p q r s t : List ℕ) → b ≡ a ++ p → c ≡ b ++ q → d ≡ c ++ r → e ≡ d ++ s → f ≡ e ++ t → f ≡ a ++ (p ++ (q ++ (r ++ (s ++ t))))
-pieces_joined a b c d e f p q r s t g h i j k = k ∙ (ap (λ x. x ++ t) (j ∙ ap (λ x. x ++ s) (i ∙ ap (λ x. x ++ r) (h ∙ ap (λ x. x ++ q) g))) ∙ simp append_assoc)
+module _ (words : List (List ℕ)) (left left' taken taken' : Option (List ℕ)) (mode : Mode) (input : List ℕ) (asks : AsksFor words mode) (read : GivesAll left input left')
+    (within : length input ≤ input_limit mode) where
+  answered : (o : Outcome) (text : List ℕ) → Answers mode o input text → IsText words left left' o text
+  answered Done text a = record { mode = mode; asks = asks; input = input; read = read; within = within; answer = a }
+  answered (Refused line why) text a = record { mode = mode; asks = asks; input = input; read = read; within = within; answer = a }
+  answered (Rejected claim which) text a = record { mode = mode; asks = asks; input = input; read = read; within = within; answer = a }
+  answered (BadText line) text a = record { mode = mode; asks = asks; input = input; read = read; within = within; answer = a }
+  answered TooLong text a = absurd (answers_length mode input text a)
+  answered Usage text a = absurd (answers_words mode input text a)
+  answered ReadFault text a = absurd (answers_no_fault mode input text a)
+  answered WriteFault text a = absurd (answers_no_write_fault mode input text a)
+  answered NoMemory text a = absurd (answers_memory mode input text a)
 
-pub three_joined : (a b c : List ℕ) (p q : List ℕ) → b ≡ a ++ p → c ≡ b ++ q → c ≡ a ++ (p ++ q)
-three_joined a b c p q g h = h ∙ (ap (λ x. x ++ q) g ∙ append_assoc a p q)
+  begun : (text : List ℕ) → Begins mode input text → IsBegun words left left' text
+  begun text b = record { mode = mode; asks = asks; input = input; read = read; within = within; begun = b }
 
-pub report_joined : (title a b c d e f : List ℕ) (p q r s t : List ℕ) → a ≡ title → b ≡ a ++ p → c ≡ b ++ q → d ≡ c ++ r → e ≡ d ++ s → f ≡ e ++ t → f ≡ title ++ (p ++ (q ++ (r ++ (s ++ t))))
-report_joined title a b c d e f p q r s t first g h i j k = pieces_joined a b c d e f p q r s t g h i j k ∙ ap (λ x. x ++ (p ++ (q ++ (r ++ (s ++ t))))) first
+  part : (text : List ℕ) → OfOutcome (λ o t. Answers mode o input t) text ⊎ Begins mode input text → OfOutcome (IsText words left left') text ⊎ IsBegun words left left' text
+  part text (inl whole) = inl record { outcome = whole.outcome; is = answered whole.outcome text whole.is }
+  part text (inr b) = inr (begun text b)
 
-pub bad_front : (input front : List ℕ) → input ≡ front ++ basis_line → ((h : Header) → IsAllowed h → front ≡ header_text h → ⊥) → (h : Header) → IsFirstForm input h → ⊥
-bad_front input front e none h first = none h first.allowed (append_cancel_right front (header_text h) basis_line (sym e ∙ first.spelled))
+  stopped : IsStopped words left left'
+  stopped = record { mode = mode; asks = asks; given = input; few = within; gives = read.0 }
 
-pub large_field : (input front : List ℕ) (g : Header) → input ≡ front ++ basis_line → IsAllowed g → front ≡ header_text g → 3 < order g.field → (h : Header) → IsFirstForm input h → ⊥
-large_field input front g e allowed spelled large h first =
-    let same : g ≡ h = one_text_one_header g h allowed first.allowed (sym spelled ∙ append_cancel_right front (header_text h) basis_line (sym e ∙ first.spelled)) in
-    let small : order g.field ≤ 3 = subst (λ k. order k.field ≤ 3) (sym same) first.small in
-    omega arith
+  lifted : (o : Outcome) → Writes (λ p t. Answers mode p input t) (Begins mode input) ⊤ o taken taken' → Writes (IsText words left left') (IsBegun words left left') (IsStopped words left left') o taken taken'
+  lifted Done w = record { text = w.text; is = answered Done w.text w.is; takes = w.takes }
+  lifted (Refused line why) w = record { text = w.text; is = answered (Refused line why) w.text w.is; takes = w.takes }
+  lifted (Rejected claim which) w = record { text = w.text; is = answered (Rejected claim which) w.text w.is; takes = w.takes }
+  lifted (BadText line) w = record { text = w.text; is = answered (BadText line) w.text w.is; takes = w.takes }
+  lifted TooLong w = absurd (answers_length mode input w.text w.is)
+  lifted Usage w = absurd (answers_words mode input w.text w.is)
+  lifted ReadFault w = (stopped, w.1)
+  lifted WriteFault w = record { text = w.text; is = part w.text w.is; front = w.front }
+  lifted NoMemory (inl none) = inl (stopped, none.1)
+  lifted NoMemory (inr w) = inr record { text = w.text; is = begun w.text w.is; takes = w.takes }
 
-pub short_suffix : (input : List ℕ) → length input < 6 → (front : List ℕ) → input ≡ front ++ basis_line → ⊥
-short_suffix input low front e = let n = ap length e in let m = length-append front basis_line in omega arith
+  pub whole_run : (o : Outcome) (old new : ℕ) → EndsWith mode input o taken taken' old new → Writes (IsText words left left') (IsBegun words left left') (IsStopped words left left') o taken taken'
+  whole_run o old new e = lifted o e.writes
 
-pub suffix_is : (input front last : List ℕ) → input ≡ front ++ last → last ≡ basis_line → input ≡ front ++ basis_line
-suffix_is input front last e f = e ∙ ap (λ r. front ++ r) f
+pub cause_of : (o : Outcome) (a b old new : ℕ) → HasSinkCause o old new → HasCause o a b old new
+cause_of Done a b old new c = tt
+cause_of (Refused line why) a b old new c = tt
+cause_of (Rejected claim which) a b old new c = tt
+cause_of (BadText line) a b old new c = tt
+cause_of TooLong a b old new c = tt
+cause_of Usage a b old new c = tt
+cause_of ReadFault a b old new c = absurd c
+cause_of WriteFault a b old new c = c
+cause_of NoMemory a b old new c = tt
 
--- a list of one text
-pub one_text : (texts : List (List ℕ)) (w : List ℕ) → length texts ≡ 1 → w ≡ get_or texts 0 w → texts ≡ w ∷ []
-one_text [] w one e = absurd (omega arith)
-one_text (t ∷ []) w one e = ap (λ r. r ∷ []) (sym e)
-one_text (t ∷ u ∷ ts) w one e = absurd (omega arith)
+-- ---- outcomes that no input answers
 
-pub clash : false ≡ true → ⊥
-clash e = cc
+module _ (words : List (List ℕ)) (left left' taken taken' : Option (List ℕ)) where
+  no_fault : (text : List ℕ) → IsText words left left' ReadFault text → ⊥
+  no_fault text is = is
 
-pub too_long_is : (words : List (List ℕ)) (left left' : Option (List ℕ)) → AsksForRun words → GivesBefore ReadTooLong input_limit left left' → IsTooLong words left left' too_long_text
-too_long_is words left left' asks read = record { asks = asks; input = read.given; read = read.gives; past = read.count; written = refl }
+  no_write_fault : (text : List ℕ) → IsText words left left' WriteFault text → ⊥
+  no_write_fault text is = is
+
+  memory : (text : List ℕ) → IsText words left left' NoMemory text → ⊥
+  memory text is = is
+
+  pub line_written : (o result : Outcome) (text : List ℕ) (old new : ℕ) → IsText words left left' o text → Finishes o text taken taken' old new result
+      → Writes (IsText words left left') (IsBegun words left left') (IsStopped words left left') result taken taken'
+  line_written = finished (IsText words left left') (IsBegun words left left') (IsStopped words left left') no_fault no_write_fault memory taken taken'
+
+  pub line_cause : (o result : Outcome) (text : List ℕ) (a b old new : ℕ) → IsText words left left' o text → Finishes o text taken taken' old new result → HasCause result a b old new
+  line_cause o result text a b old new is ends =
+      cause_of result a b old new (finished_cause (IsText words left left') (IsBegun words left left') (IsStopped words left left') no_fault no_write_fault memory taken taken' o result text old new is ends)
+
+-- more was read than the mode's limit
+pub too_long_is : (words : List (List ℕ)) (left left' : Option (List ℕ)) (mode : Mode) (limit : ℕ) → AsksFor words mode → limit ≡ input_limit mode
+    → GivesBefore ReadTooLong limit left left' → IsText words left left' TooLong too_long_text
+too_long_is words left left' mode limit asks same before =
+    record { mode = mode; asks = asks; input = before.given; read = before.gives; past = before.count ∙ ap (λ n. n + 1) same; written = refl }
+
+-- the work on an input that was read to its end
+pub input_answered : (words : List (List ℕ)) (left left' taken taken' : Option (List ℕ)) (mode found : Mode) (items text : List ℕ) (limit : ℕ) (o : Outcome) (old new : ℕ) → AsksFor words found
+    → found ≡ mode → limit ≡ input_limit found → GivesAll left items left' → length items ≤ limit → text ≡ items → EndsWith mode text o taken taken' old new
+    → Writes (IsText words left left') (IsBegun words left left') (IsStopped words left left') o taken taken'
+input_answered words left left' taken taken' mode found items text limit o old new asks is same read within told ends =
+    whole_run words left left' taken taken' mode items (subst (AsksFor words) is asks) read (subst (λ n. length items ≤ input_limit n) is (subst (λ n. length items ≤ n) same within)) o old new
+    (subst (λ t. EndsWith mode t o taken taken' old new) told ends)
+
+-- a report that was read, of which the verdict is that it holds
+pub accepts : (input text : List ℕ) (report : Report) → IsTextOf input report → IsVerdict report verdict.Holds → text ≡ holds_text (length report.records) → CheckAnswers Done input text
+accepts input text report reads holds written =
+    record { report = report; reads = reads; verdict_is = holds; hold = λ k. conditions_suffice report k reads.report_is (λ j low. holds j); written = written }

@@ -1,5 +1,6 @@
-pub mod FirstForm
-pub mod Reports
+pub mod Modes
+pub mod Texts
 pub mod Answers
 pub mod Outcomes
-pub mod Reading
+pub mod Expected
+pub mod Steps

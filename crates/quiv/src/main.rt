@@ -1,11 +1,12 @@
-//! The calculator: reads a script from standard input and writes its report to standard output.
+//! The calculator: `run` reads a script from standard input and writes its report to standard output, `check` reads a report and writes the verdict on it.
 #![tactic(auto)]
 
-mod answering;
-mod first_form;
+mod checking;
+pub mod laws;
+mod modes;
 mod outcome;
-mod reports;
 mod running;
+mod texts;
 
 use quiv_io::{ReaderSource, WriterSink};
 use running::quiv;

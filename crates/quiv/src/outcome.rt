@@ -1,24 +1,21 @@
-//! How a run ends.
+//! How a run of the program ends.
 ghost use Rattle.std.specs.Prelude.{◌≡◌};
 ghost use Rattle.quiv.specs.Outcomes.{status_of};
 
-/// Why a statement is refused.
-#[derive(Clone, Copy, Debug, PartialEq, Eq)]
-pub enum Why {
-    /// More than 4,096 paths are shorter than the bound: so many, or 2^64 - 1 where there are more.
-    PathLimit { count: u64 },
-}
+use claim_types::{Clause, Why};
 
-/// How a run ends.
-#[derive(Clone, Copy, Debug, PartialEq, Eq)]
+/// How a run of the program ends.
+#[derive(Clone, Copy, Debug, Drop, PartialEq, Eq)]
 pub enum Outcome {
-    /// The report was written.
+    /// The report, or the verdict that all claims hold, was written.
     Done,
-    /// The statement of this line was refused.
+    /// The statement of this line was refused; the report up to its refusal was written.
     Refused { line: u32, why: Why },
-    /// The input has not the first form.
-    OtherForm,
-    /// The input is longer than 4,194,304 bytes.
+    /// This claim of the report, counted from 1, is the first that fails, and this the first of its conditions that does.
+    Rejected { claim: u32, clause: Clause },
+    /// This line of the input, counted from 1, is the first that the language or the format refuses.
+    BadText { line: u32 },
+    /// The input is longer than the mode's limit.
     TooLong,
     /// The words ask for nothing that there is.
     Usage,
@@ -26,7 +23,7 @@ pub enum Outcome {
     ReadFault,
     /// A write failed.
     WriteFault,
-    /// Memory ran out.
+    /// There was no memory.
     NoMemory,
 }
 
@@ -38,12 +35,13 @@ impl Outcome {
         match self {
             Outcome::Done => 0,
             Outcome::Refused { .. } => 1,
+            Outcome::Rejected { .. } => 2,
+            Outcome::BadText { .. } => 3,
             Outcome::TooLong => 4,
             Outcome::Usage => 5,
             Outcome::ReadFault => 6,
             Outcome::WriteFault => 7,
             Outcome::NoMemory => 8,
-            Outcome::OtherForm => 9,
         }
     }
 }

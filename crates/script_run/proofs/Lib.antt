@@ -1,0 +1,3 @@
+pub mod BasisRecords
+pub mod RightReports
+pub mod Pieces
