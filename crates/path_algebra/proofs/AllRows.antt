@@ -20,10 +20,10 @@ use Rattle.path_algebra.specs.declared.Relation.{Relation}
 use Rattle.path_algebra.specs.Ideals.{relation_element}
 use Rattle.path_algebra.specs.Words.{IsShortPath, AreNormalWords, IsBasis}
 use Rattle.path_algebra.specs.Allowed.{IsAllowed}
-use Rattle.path_algebra.specs.Rows.{product_row, HasElement, AreInIdeal}
 use Rattle.path_algebra.proofs.IdealLemmas.{IsInIdeal-product}
+use Rattle.path_algebra.proofs.Columns.{HasElement}
 use Rattle.path_algebra.proofs.ColumnList.{columns_from_paths}
-use Rattle.path_algebra.proofs.Collecting.{AreInIdeal-none, AreInIdeal-push, AllProducts, complete_rows, IsRow-pushed}
+use Rattle.path_algebra.proofs.Collecting.{product_row, AreInIdeal, HasProducts, AreInIdeal-none, AreInIdeal-push, complete_rows, IsRow-product_row}
 use Rattle.path_algebra.proofs.Quotient.{IsReducedIdeal, normal_words_basis}
 
 first_rows : (h : Header) (columns : List Path) (rows : List (List ℕ)) → ((i : ℕ) → i < length rows → HasElement h columns (get_or rows i [])) → (k : ℕ) → k ≤ length rows
@@ -41,7 +41,7 @@ all_in_ideal h columns rows e = subst (AreInIdeal h columns) (take-length rows) 
 
 -- the rows of u r v for one relation and one u, for one relation, and for all relations
 rows_after : Header → List Path → Relation → Path → List (List ℕ)
-rows_after h ps r u = map (λ v. product_row h (reverse ps) u r.terms v) ps
+rows_after h ps r u = map (λ v. product_row h (reverse ps) u r v) ps
 
 rows_with : Header → List Path → Relation → List (List ℕ)
 rows_with h ps r = flat_map (rows_after h ps r) ps
@@ -57,19 +57,19 @@ record IsProductRow (h : Header) (ps : List Path) (x : List ℕ) : Type 0 where
   left_listed : Contains ps left
   relation_written : Contains h.relations relation
   right_listed : Contains ps right
-  is : product_row h (reverse ps) left relation.terms right ≡ x
+  is : product_row h (reverse ps) left relation right ≡ x
 
 product_rows : (h : Header) (ps : List Path) (x : List ℕ) → Contains (all_rows h ps) x → IsProductRow h ps x
 unfolding all_rows rows_with rows_after
 product_rows h ps x c =
     let r = Contains-from_flat_map (rows_with h ps) h.relations x c in
     let u = Contains-from_flat_map (rows_after h ps r.0) ps x r.2 in
-    let v = Contains-from_map (λ w. product_row h (reverse ps) u.0 r.0.terms w) ps x u.2 in
+    let v = Contains-from_map (λ w. product_row h (reverse ps) u.0 r.0 w) ps x u.2 in
     record { left = u.0; relation = r.0; right = v.0; left_listed = u.1; relation_written = r.1; right_listed = v.1; is = v.2 }
 
-row_listed : (h : Header) (ps : List Path) (u v : Path) (r : Relation) → Contains ps u → Contains h.relations r → Contains ps v → Contains (all_rows h ps) (product_row h (reverse ps) u r.terms v)
+row_listed : (h : Header) (ps : List Path) (u v : Path) (r : Relation) → Contains ps u → Contains h.relations r → Contains ps v → Contains (all_rows h ps) (product_row h (reverse ps) u r v)
 unfolding all_rows rows_with rows_after
-row_listed h ps u v r a b c = Contains-flat_map (rows_with h ps) h.relations r _ b (Contains-flat_map (rows_after h ps r) ps u _ a (Contains-map (λ w. product_row h (reverse ps) u r.terms w) ps v c))
+row_listed h ps u v r a b c = Contains-flat_map (rows_with h ps) h.relations r _ b (Contains-flat_map (rows_after h ps r) ps u _ a (Contains-map (λ w. product_row h (reverse ps) u r w) ps v c))
 
 short_of : (h : Header) (ps : List Path) → ListsPathsBelow h.quiver h.bound ps → (p : Path) → Contains ps p → IsShortPath h p
 short_of h ps l p c = let s = l.only p c in record { path = s.0; short = s.1 }
@@ -80,8 +80,8 @@ row_at h ps i l = product_rows h ps _ (Contains-get_or (all_rows h ps) i [] l)
 all_rows-grid : (h : Header) (ps : List Path) → IsGrid h.field (length (all_rows h ps)) (length (reverse ps)) (all_rows h ps)
 unfolding entry
 all_rows-grid h ps = IsGrid-from h.field _ (length (reverse ps)) (all_rows h ps) (λ i. length (all_rows h ps))
-    (λ i l. let r = row_at h ps i l in ap length (sym r.is) ∙ (IsRow-pushed h ps r.left r.right r.relation).count)
-    (λ i j l k. let r = row_at h ps i l in subst (λ x. get_or x j 0 < order h.field) r.is ((IsRow-pushed h ps r.left r.right r.relation).small j))
+    (λ i l. let r = row_at h ps i l in ap length (sym r.is) ∙ (IsRow-product_row h (reverse ps) r.left r.relation r.right).count)
+    (λ i j l k. let r = row_at h ps i l in subst (λ x. get_or x j 0 < order h.field) r.is ((IsRow-product_row h (reverse ps) r.left r.relation r.right).small j))
 
 row_in_span : (h : Header) (ps : List Path) (k : ℕ) (d : List ℕ) → k < length (all_rows h ps) → IsInSpan h.field (length (reverse ps)) (all_rows h ps) (get_or (all_rows h ps) k d)
 row_in_span h ps k d l = subst (IsInSpan h.field (length (reverse ps)) (all_rows h ps)) (get_or_default (all_rows h ps) k [] d l)
@@ -93,7 +93,6 @@ pub record IdealRows (h : Header) (ps : List Path) : Type 0 where
   pub are : IsReducedIdeal h (reverse ps) rows
 
 pub ideal_rows : (h : Header) (ps : List Path) → IsAllowed h → ListsPathsBelow h.quiver h.bound ps → IdealRows h ps
-unfolding product_row
 ideal_rows h ps ok l = record {
   rows = form.list;
   are = record {
@@ -118,14 +117,11 @@ ideal_rows h ps ok l = record {
       row = r.is;
     })
 
-    products : AllProducts h (reverse ps) (all_rows h ps)
+    products : HasProducts h (reverse ps) (all_rows h ps)
     products = record {
-      allowed = ok;
-      products = λ r w. record {
-        products = λ u v s t.
-            let c = row_listed h ps u v r (l.all u s.path s.short) w (l.all v t.path t.short) in
-            subst (IsInSpan h.field (length (reverse ps)) (all_rows h ps)) (c.2) (row_in_span h ps c.0 (product_row h (reverse ps) u r.terms v) c.1);
-      };
+      products = λ u r v s w t.
+          let c = row_listed h ps u v r (l.all u s.path s.short) w (l.all v t.path t.short) in
+          subst (IsInSpan h.field (length (reverse ps)) (all_rows h ps)) (c.2) (row_in_span h ps c.0 (product_row h (reverse ps) u r v) c.1);
     }
 
 -- The normal words of an allowed header are a basis of its quotient.

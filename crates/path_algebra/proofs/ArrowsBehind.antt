@@ -1,25 +1,24 @@
 -- Arrows behind a path may be put there before it is reduced or act after it is reduced, so long as the whole is shorter than the bound: the
 -- occurrence that is rewritten is the same.
-use Rattle.std.proofs.Common.{ℕ, ◌≡◌, ◌<◌, ◌≤◌, ◌+◌, ◌-◌, inl, inr, List, [], ◌∷◌, ◌++◌, ◌&&◌, eqb, if◌then◌else◌, length, refl, sym, ap, ap₂, ◌∙◌, arith}
+use Rattle.std.proofs.Common.{ℕ, ◌≡◌, ◌<◌, ◌≤◌, ◌+◌, ◌-◌, inl, inr, List, ◌&&◌, eqb, if◌then◌else◌, refl, sym, ap, ap₂, ◌∙◌, arith}
 use Rattle.std.specs.Prelude.{Contains}
 use mathlib.Core.Path.{fun_ext}
 use Rattle.std.proofs.lemmas.Bool.{cases_lt, cases_Bool, cond-true, cond-false, and_parts, eqb-true}
-use Rattle.std.proofs.lemmas.List.{append_assoc, append-nil}
 use Rattle.std.proofs.lemmas.List.Elements.{All-contains}
 use Rattle.linear_algebra.specs.Field.{mul}
 use Rattle.linear_algebra.specs.FieldLaws.{zero_mul}
 use Rattle.quiver_paths.specs.declared.Path.{Path}
 use Rattle.quiver_paths.specs.Quiver.{arrow_count, source}
-use Rattle.quiver_paths.specs.Path.{IsPath, Leads, path_length, Meets, concat, arrow_path, IsFactor}
+use Rattle.quiver_paths.specs.Path.{IsPath, path_length, Meets, concat, arrow_path, IsFactor}
 use Rattle.quiver_paths.specs.PathOrder.{IsSmaller}
-use Rattle.quiver_paths.proofs.PathLemmas.{IsPath-concat, IsPath-arrow, path_length-concat, concat_assoc, same_path, cut, cut_once, rest_length}
+use Rattle.quiver_paths.proofs.PathLemmas.{IsPath-concat, IsPath-arrow, path_length-concat, concat_assoc, cut, cut_once, rest_length}
 use Rattle.quiver_paths.proofs.PathOrderLemmas.{length_of_smaller}
 use Rattle.path_algebra.specs.declared.Term.{Term}
 use Rattle.path_algebra.specs.declared.Header.{Header}
 use Rattle.path_algebra.specs.declared.rules.Rule.{Rule}
 use Rattle.path_algebra.specs.Elements.{path_element}
 use Rattle.path_algebra.specs.Words.{IsShortPath}
-use Rattle.path_algebra.specs.Reduction.{FirstOccurrence, sum_between, act_arrow, act_arrows}
+use Rattle.path_algebra.specs.Reduction.{FirstOccurrence, sum_between, act_arrow}
 use Rattle.path_algebra.proofs.SumsOver.{sum_over-same, IsLinear, linear-same, linear-sum}
 use Rattle.path_algebra.proofs.Acting.{act_arrow-linear}
 use Rattle.path_algebra.proofs.Reducing.{by_reduction, rewritten_smaller}
@@ -150,13 +149,3 @@ module _ (h : Header) (words : List Path) (rules : List Rule) (becomes : Path �
   pub arrow_behind : (b : ℕ) → b < arrow_count h.quiver → (p : Path) → IsPath h.quiver p → p.end ≡ source h.quiver b → path_length p + 1 < h.bound
       → act_arrow h becomes words b (becomes p) ≡ becomes (concat p (arrow_path h.quiver b))
   arrow_behind b l p hp e s = fun_ext (behind_at b l p hp e s)
-
-  -- arrows behind a path, one behind the other
-  pub arrows_behind : (xs : List ℕ) (p : Path) (v : ℕ) → IsPath h.quiver p → Leads h.quiver p.end xs v → path_length p + length xs < h.bound
-      → act_arrows h becomes words xs (becomes p) ≡ becomes (record { start = p.start; end = v; arrows = p.arrows ++ xs })
-  unfolding act_arrows
-  arrows_behind [] p v hp l s = ap becomes (same_path p (record { start = p.start; end = v; arrows = p.arrows ++ [] }) refl l (sym (append-nil p.arrows)))
-  arrows_behind (b ∷ xs) p v hp l s =
-      ap (act_arrows h becomes words xs) (arrow_behind b l.0 p hp (sym l.1) (omega (arith, s)))
-      ∙ arrows_behind xs (concat p (arrow_path h.quiver b)) v (then_arrow_is b l.0 p hp (sym l.1)) l.2 (omega (arith, s, path_length-concat p (arrow_path h.quiver b)))
-      ∙ ap becomes (same_path (record { start = p.start; end = v; arrows = (p.arrows ++ b ∷ []) ++ xs }) (record { start = p.start; end = v; arrows = p.arrows ++ b ∷ xs }) refl refl (append_assoc p.arrows (b ∷ []) xs))

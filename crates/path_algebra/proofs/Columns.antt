@@ -1,5 +1,6 @@
 -- Elements as rows over the list of all short paths, the greatest first.
 use Rattle.std.proofs.Common.{ℕ, ◌≡◌, ◌≢◌, ◌<◌, ◌⊎◌, inl, inr, List, length, get_or, sym, ap, ◌∙◌, subst, arith}
+use Rattle.std.specs.Prelude.{Contains, AllPairs}
 use Rattle.std.proofs.lemmas.Bool.{cases_lt, cases_eq, cases_order}
 use Rattle.std.proofs.lemmas.List.{get_or_default}
 use Rattle.std.proofs.lemmas.List.Elements.{Contains-get_or}
@@ -14,8 +15,21 @@ use Rattle.quiver_paths.specs.Path.{trivial_path}
 use Rattle.quiver_paths.specs.PathOrder.{IsSmaller}
 use Rattle.quiver_paths.proofs.PathOrderLemmas.{IsSmaller-irreflexive, IsSmaller-asymmetric}
 use Rattle.path_algebra.specs.declared.Header.{Header}
-use Rattle.path_algebra.specs.Rows.{AreColumns, path_at, row_of}
+use Rattle.path_algebra.specs.Ideals.{IsInIdeal}
+use Rattle.path_algebra.specs.Rows.{path_at, row_of}
 use Rattle.path_algebra.specs.Words.{IsShortPath, IsGreatestPath}
+
+-- the list has all short paths, the greatest first
+pub record AreColumns (h : Header) (columns : List Path) : Type 0 where
+  pub descending : AllPairs (λ p r. IsSmaller r p) columns
+  pub all : (p : Path) → IsShortPath h p → Contains columns p
+  pub only : (p : Path) → Contains columns p → IsShortPath h p
+
+-- an element of the ideal with this row
+pub record HasElement (h : Header) (columns : List Path) (x : List ℕ) : Type 0 where
+  pub element : Path → ℕ
+  pub in_ideal : IsInIdeal h element
+  pub row : row_of columns element ≡ x
 
 pub length-row_of : (columns : List Path) (x : Path → ℕ) → length (row_of columns x) ≡ length columns
 unfolding row_of

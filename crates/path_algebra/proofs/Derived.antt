@@ -1,22 +1,20 @@
 -- The terms of the steps' elements.
 use Rattle.std.proofs.Common.{ℕ, ◌≡◌, ◌<◌, ◌≤◌, ◌+◌, ◌-◌, inl, inr, List, [], ◌∷◌, ◌++◌, take, length, length-append, get_or, refl, sym, ap, ap₂, ◌∙◌, subst, arith}
-use Rattle.std.specs.Prelude.{Contains, All, slice_index_or}
+use Rattle.std.specs.Prelude.{All, slice_index_or}
 use Rattle.std.proofs.lemmas.Bool.{cases_lt}
 use Rattle.std.proofs.lemmas.List.{get_or_append_left, take_more}
 use Rattle.std.proofs.Math.Seq.{get_or-append_seam}
-use Rattle.std.proofs.lemmas.List.Elements.{All-contains}
 use Rattle.linear_algebra.specs.Field.{add, mul}
 use Rattle.linear_algebra.specs.FieldLaws.{add_zero, mul_zero, mul_below, one_mul}
 use Rattle.quiver_paths.specs.declared.Path.{Path}
 use Rattle.quiver_paths.specs.Path.{path_length, arrow_path}
 use Rattle.path_algebra.specs.declared.Term.{Term}
-use Rattle.path_algebra.specs.declared.Relation.{Relation}
 use Rattle.path_algebra.specs.declared.Header.{Header}
 use Rattle.path_algebra.specs.declared.rules.Element.{Element}
 use Rattle.path_algebra.specs.declared.rules.Step.{Step}
 use Rattle.path_algebra.specs.declared.rules.Step.TheVariants.{Left, Right, Add}
 use Rattle.path_algebra.specs.Elements.{path_element, sum_of_terms}
-use Rattle.path_algebra.specs.Allowed.{IsAllowed, IsRelation, IsTerm}
+use Rattle.path_algebra.specs.Allowed.{IsAllowed, IsTerm}
 use Rattle.path_algebra.specs.Rules.{AreElementTerms}
 use Rattle.path_algebra.specs.Derivations.{element_at, step_element, elements_behind, step_elements, IsNumber}
 use Rattle.path_algebra.specs.ElementTerms.{AreTermsOf, AreTermsOfEach, plus_multiple, terms_behind, terms_before}
@@ -24,15 +22,12 @@ use Rattle.path_algebra.proofs.TermProducts.{AreTermsOf-behind, AreTermsOf-befor
 use Rattle.quiver_paths.specs.Quiver.{arrow_count}
 use Rattle.quiver_paths.proofs.PathLemmas.{IsPath-arrow}
 use Rattle.path_algebra.proofs.ElementLemmas.{path_element-long, sum_of_terms-below, sum_of_terms-append}
-use Rattle.path_algebra.proofs.TermLists.{sum_of_terms-nil, sum_of_terms-cons, AreElementTerms-nil, AreElementTerms-one}
+use Rattle.path_algebra.proofs.TermLists.{sum_of_terms-nil, sum_of_terms-cons, AreElementTerms-one}
 
 -- ---- relations
 
 pub AreTermsOf-same : (h : Header) (x y : Path → ℕ) (terms : List Term) → ((p : Path) → x p ≡ y p) → AreTermsOf h x terms → AreTermsOf h y terms
 AreTermsOf-same h x y terms e of = record { are = of.are; value = λ p. of.value p ∙ e p }
-
-pub AreTermsOf-none : (h : Header) → AreTermsOf h (sum_of_terms h.field h.bound []) []
-AreTermsOf-none h = record { are = AreElementTerms-nil h; value = λ p. refl }
 
 pub long_term : (h : Header) (sum : List Term) (a : Term) → AreElementTerms h sum → h.bound ≤ path_length a.path
     → AreTermsOf h (λ p. add h.field (sum_of_terms h.field h.bound sum p) (mul h.field a.coef (path_element h.bound a.path p))) sum
@@ -69,9 +64,6 @@ one_term_more h terms i a sum longer l e of more = AreTermsOf-same h _ _ longer
     ∙ sym (ap (λ ts. sum_of_terms q h.bound ts p) (take_more terms i a l ∙ ap (λ (x : Term). take i terms ++ x ∷ []) (sym e))
     ∙ sum_of_terms-append q h.bound (take i terms) (a ∷ []) p
     ∙ ap (add q (sum_of_terms q h.bound (take i terms) p)) (sum_of_terms-cons q h.bound a [] p ∙ ap (add q (one a)) (sum_of_terms-nil q h.bound p) ∙ add_zero q _ (mul_below q _ _)))) more
-
-pub term_of_relation : (h : Header) (r : Relation) (i : ℕ) (a : Term) → IsAllowed h → Contains h.relations r → i < length r.terms → a ≡ get_or r.terms i a → IsTerm h a
-term_of_relation h r i a ok m l e = subst (IsTerm h) (sym e) ((All-contains (IsRelation h) h.relations r ok.relations m).terms i a l)
 
 -- ---- steps
 

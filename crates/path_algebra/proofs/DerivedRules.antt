@@ -1,8 +1,8 @@
 -- Rules and the terms of what they say is zero.
-use Rattle.std.proofs.Common.{ℕ, suc, ◌≡◌, ◌<◌, ◌+◌, ◌-◌, inl, inr, List, [], ◌∷◌, map, take, drop, length, get_or, refl, sym, ap, ap₂, ◌∙◌, subst, arith, mod-eq_of_lt}
+use Rattle.std.proofs.Common.{ℕ, suc, ◌≡◌, ◌<◌, ◌-◌, inl, inr, List, [], ◌∷◌, map, length, get_or, refl, sym, ap, ap₂, ◌∙◌, subst, arith, mod-eq_of_lt}
 use Rattle.std.specs.Prelude.{Contains, All}
 use Rattle.std.proofs.lemmas.Bool.{cases_lt}
-use Rattle.std.proofs.lemmas.List.{length-map, take_rest, get_or_default}
+use Rattle.std.proofs.lemmas.List.{get_or_default}
 use Rattle.std.proofs.lemmas.List.Elements.{All-map, All-weaker, All-contains, All-contains_itself}
 use Rattle.linear_algebra.specs.Field.{Gf, order, add, mul, neg}
 use Rattle.linear_algebra.specs.FieldLaws.{one-lt-order, neg_below, neg_neg, neg_zero, neg-add, neg_mul, one_mul, sub_def}
@@ -99,24 +99,6 @@ negatives_from_items q (x ∷ xs) (y ∷ ys) e same =
     let first : y ≡ negative q x = same 0 y (omega arith) in
     let rest : ys ≡ map (negative q) xs = negatives_from_items q xs ys (omega arith) (λ j t l. same (suc j) t (omega arith)) in
     λ i. first i ∷ rest i
-
--- the terms of a rule, by the first and the rest
-pub rule_terms_from_parts : (h : Header) (rule : Rule) (terms : List Term) (first : Term) → first ≡ get_or terms 0 first → length terms ≡ length rule.tail.terms + 1
-    → first ≡ record { coef = 1; path = rule.tip } → take (length terms - 1) (drop 1 terms) ≡ map (negative h.field) rule.tail.terms → terms ≡ rule_terms h rule
-rule_terms_from_parts h rule [] first is e f r = absurd (omega arith)
-rule_terms_from_parts h rule (t ∷ ts) first is e f r =
-    let head' : t ≡ record { coef = 1; path = rule.tip } = sym is ∙ f in
-    let rest : ts ≡ map (negative h.field) rule.tail.terms = sym (take_rest (t ∷ ts) 1) ∙ r in
-    λ i. head' i ∷ rest i
-
-pub parts_of_rule_terms : (h : Header) (rule : Rule) (terms : List Term) (first : Term) → first ≡ get_or terms 0 first → terms ≡ rule_terms h rule → first ≡ record { coef = 1; path = rule.tip }
-parts_of_rule_terms h rule terms first is e = is ∙ ap (λ ts. get_or ts 0 first) e
-
-pub rest_of_rule_terms : (h : Header) (rule : Rule) (terms : List Term) → terms ≡ rule_terms h rule → take (length terms - 1) (drop 1 terms) ≡ map (negative h.field) rule.tail.terms
-rest_of_rule_terms h rule terms e = take_rest terms 1 ∙ ap (drop 1) e
-
-pub length_of_rule_terms : (h : Header) (rule : Rule) (terms : List Term) → terms ≡ rule_terms h rule → length terms ≡ length rule.tail.terms + 1
-length_of_rule_terms h rule terms e = ap length e ∙ (let k = length-map rule.tail.terms (negative h.field) in omega arith)
 
 -- ---- all rules
 

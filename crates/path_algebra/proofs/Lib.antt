@@ -4,10 +4,8 @@ pub mod IdealLemmas
 pub mod Columns
 pub mod Combinations
 pub mod Quotient
-pub mod ProductRows
 pub mod Places
 pub mod ColumnList
-pub mod FreeColumns
 pub mod Collecting
 pub mod AllRows
 pub mod SumsOver

@@ -15,11 +15,11 @@ use Rattle.path_algebra.specs.declared.Header.{Header}
 use Rattle.path_algebra.specs.Elements.{path_element, combination}
 use Rattle.path_algebra.specs.Ideals.{IsInIdeal, Congruent}
 use Rattle.path_algebra.specs.Words.{IsShortPath, IsGreatestPath, IsNormal, AreNormalWords, IsExpansion, IsBasis}
-use Rattle.path_algebra.specs.Rows.{HasElement, AreColumns, path_at, row_of}
+use Rattle.path_algebra.specs.Rows.{path_at, row_of}
 use Rattle.path_algebra.specs.Allowed.{IsAllowed}
 use Rattle.path_algebra.proofs.ElementLemmas.{path_element-below, path_element_support, combination-below}
 use Rattle.path_algebra.proofs.IdealLemmas.{IsInIdeal-below, IsInIdeal-same, IsInIdeal-sub, IsInIdeal_support}
-use Rattle.path_algebra.proofs.Columns.{get_or-row_of, IsRow-row_of, column_of, short_at, same_by_rows, leading-from_greatest, greatest-from_leading}
+use Rattle.path_algebra.proofs.Columns.{HasElement, AreColumns, get_or-row_of, IsRow-row_of, column_of, short_at, same_by_rows, leading-from_greatest, greatest-from_leading}
 use Rattle.path_algebra.proofs.Combinations.{combination-outside, combination_support, map-same, AreDistinct, combination-map, coefficients_from_combination}
 
 -- the combinations of the rows are the rows of the ideal's elements

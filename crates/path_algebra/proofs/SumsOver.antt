@@ -46,13 +46,6 @@ unfolding sum_over
 sum_over-append q [] ys f = sym (zero_add q _ (sum_over_below q ys f))
 sum_over-append q (x ∷ xs) ys f = ap (add q (f x)) (sum_over-append q xs ys f) ∙ sym (add_assoc q _ _ _)
 
--- the order of two sums does not matter
-pub sum_over-swap : {X Y : Type 0} (q : Gf) (xs : List X) (ys : List Y) (f : X → Y → ℕ)
-    → sum_over q xs (λ x. sum_over q ys (f x)) ≡ sum_over q ys (λ y. sum_over q xs (λ x. f x y))
-unfolding sum_over
-sum_over-swap q [] ys f = sym (sum_over-zeros q ys (λ y. 0) (λ y m. refl))
-sum_over-swap q (x ∷ xs) ys f = ap (add q (sum_over q ys (f x))) (sum_over-swap q xs ys f) ∙ sym (sum_over-add q ys (f x) (λ y. sum_over q xs (λ z. f z y)))
-
 -- a function on elements that goes with sums and multiples
 pub record IsLinear (q : Gf) (L : (Path → ℕ) → Path → ℕ) : Type 0 where
   pub adds : (x y : Path → ℕ) (r : Path) → L (λ p. add q (x p) (y p)) r ≡ add q (L x r) (L y r)

@@ -1,5 +1,5 @@
 -- Where arrows stand among ascending tips and words.
-use Rattle.std.proofs.Common.{ℕ, ◌≡◌, ◌<◌, ◌≤◌, inl, inr, List, length, get_or, refl, sym, ap, ◌∙◌, subst, arith}
+use Rattle.std.proofs.Common.{ℕ, ◌≡◌, ◌<◌, inl, inr, List, length, get_or, refl, sym, ap, ◌∙◌, subst}
 use Rattle.std.specs.Ordering.{ordering_then, nat_cmp}
 use Rattle.std.specs.declared.cmp.Ordering.{Ordering}
 use Rattle.std.specs.declared.cmp.Ordering.TheVariants.{Less, Equal, Greater}
@@ -104,13 +104,3 @@ tip-equal rules arrows m x d l e o = ap (λ (r : Rule). r.tip.arrows) (sym (e �
 -- the rule at a place has a tip
 pub tip_of_place : (rules : List Rule) (arrows : List ℕ) (m : ℕ) (d : Rule) → m < length rules → (get_or rules m d).tip.arrows ≡ arrows → IsTipOf rules arrows
 tip_of_place rules arrows m d l e = record { rule = get_or rules m d; listed = (m, l, get_or_default rules m (get_or rules m d) d l); same = e }
-
--- no place is left
-pub tip-nowhere : (rules : List Rule) (arrows : List ℕ) (low high : ℕ) → high ≤ low
-    → ((k : ℕ) (d : Rule) → k < length rules → (get_or rules k d).tip.arrows ≡ arrows → (low ≤ k) × (k < high)) → IsTipOf rules arrows → ⊥
-tip-nowhere rules arrows low high l between t =
-    let k = t.listed.0 in
-    let b = between k t.rule t.listed.1 (ap (λ (r : Rule). r.tip.arrows) t.listed.2 ∙ t.same) in
-    let b0 = b.0 in
-    let b1 = b.1 in
-    omega arith
