@@ -1,9 +1,9 @@
 -- Inputs that end well.
-use Rattle.std.proofs.Common.{◌≡◌, ℕ, ◌+◌, ◌≤◌, List, [], ◌∷◌, ◌++◌, length, codes, Some, None, inl, inr, refl, sym, ap, ◌∙◌, subst, arith, append-nil}
+use Rattle.std.proofs.Common.{◌≡◌, ℕ, ◌+◌, ◌≤◌, List, [], ◌∷◌, ◌++◌, length, codes, Some, None, refl, sym, ap, ◌∙◌, subst, arith, append-nil}
 use Rattle.std.specs.declared.option.Option.{Option}
 use Rattle.std.proofs.lemmas.List.{length-append}
 use Rattle.quiv_io.specs.Counts.{Rose}
-use Rattle.quiv_io.specs.Bytes.{Gives, IsAtEnd}
+use Rattle.quiv_io.specs.Bytes.{Gives}
 use Rattle.quiv_io.specs.Whole.{GivesAll}
 use Rattle.claim_types.specs.declared.reports.Report.{Report}
 use Rattle.claim_types.specs.declared.reports.Why.{Why}
@@ -13,13 +13,7 @@ use Rattle.claim_types.specs.declared.verdicts.Verdict.{Verdict}
 use Rattle.claim_types.specs.declared.verdicts.Verdict.TheVariants as verdict
 use Rattle.claim_types.proofs.ClaimLaws.{one_verdict}
 use Rattle.claim_text.proofs.ReportLaws.{one_report, report_not_bad}
-use Rattle.script_lang.specs.declared.types.Script.{Script}
-use Rattle.text_lines.specs.Lines.{lines}
-use Rattle.text_lines.specs.Reading.{Reads}
-use Rattle.text_lines.proofs.Readings.{whole_not_bad}
-use Rattle.script_lang.specs.declared.part.Part.{Part}
-use Rattle.script_lang.specs.Scripts.{Step, MayEnd, start, script_of, IsScript, IsBadLine}
-use Rattle.script_lang.specs.Determined.{Step-determined}
+use Rattle.script_lang.proofs.ScriptLaws.{one_script, script_not_bad}
 use Rattle.script_run.specs.Runs.{IsRightReport}
 use Rattle.quiv.specs.declared.outcome.Outcome.{Outcome}
 use Rattle.quiv.specs.declared.outcome.Outcome.TheVariants.{Done, Refused, Rejected, BadText, TooLong, Usage, ReadFault, WriteFault, NoMemory}
@@ -57,17 +51,6 @@ read_part_of input given left (Some rest) tells read =
     let told : input ≡ given ++ rest = subst (λ l. Gives l given (Some rest)) tells read in
     let e = ap length told in let f = length-append given rest in omega arith
 
--- lines read as one part, so a text reads as one script, and then no line of it is bad
-reads_one : (p q r : Part) (ls : List (List ℕ)) → Reads Step p ls q → Reads Step p ls r → q ≡ r
-reads_one p q r [] a b = a ∙ sym b
-reads_one p q r (l ∷ ls) a b = reads_one b.0 q r ls (subst (λ m. Reads Step m ls q) (Step-determined p l a.0 b.0 a.1 b.1) a.2) b.2
-
-one_script : (text : List ℕ) (s t : Script) → IsScript text s → IsScript text t → s ≡ t
-one_script text s t a b = a.says ∙ ap script_of (reads_one start a.last b.last (lines text) a.reads.reads b.reads.reads) ∙ sym b.says
-
-no_bad_line : (text : List ℕ) (s : Script) (k : ℕ) → IsScript text s → IsBadLine text k → ⊥
-no_bad_line text s k is bad = whole_not_bad Step MayEnd Step-determined start is.last (lines text) k is.reads bad
-
 -- a good input is not refused
 good_not_refused : (mode : Mode) (input text : List ℕ) (line : ℕ) (why : Why) → IsGood mode input → Answers mode (Refused line why) input text → ⊥
 good_not_refused Run input text line why good a =
@@ -85,7 +68,7 @@ good_not_rejected Check input text claim which good a =
     verdicts_differ claim which (one_verdict a.report verdict.Holds (verdict.Fails claim which) (subst (λ (r : Report). (k : ℕ) → ConditionsHold r k) same good.conditions) a.verdict_is)
 
 good_not_bad : (mode : Mode) (input text : List ℕ) (line : ℕ) → IsGood mode input → Answers mode (BadText line) input text → ⊥
-good_not_bad Run input text line good a = no_bad_line input good.script line good.reads a.bad
+good_not_bad Run input text line good a = script_not_bad input good.script line good.reads a.bad
 good_not_bad Check input text line good a = report_not_bad input good.report line good.reads a.bad
 
 module _ (words : List (List ℕ)) (left left' taken taken' : Option (List ℕ)) (mode : Mode) (input : List ℕ) (asks : AsksFor words mode) (tells : left ≡ Some input)

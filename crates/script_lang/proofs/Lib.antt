@@ -5,7 +5,7 @@ mod RelatedLaws
 pub mod Steps
 mod PlaceLaws
 mod Decided
-mod ScriptLaws
+pub mod ScriptLaws
 mod TokenRanges
 mod LineRanges
 mod SoundStatements

@@ -3,7 +3,7 @@
 
 mod arguments;
 mod following;
-mod laws;
+pub mod laws;
 mod line;
 mod part;
 mod reader;
@@ -13,7 +13,6 @@ mod statements;
 mod tokens;
 mod types;
 
-pub use laws::{scripts_are_lawful, texts_are_read_once};
 pub use reader::{ParseError, parse};
 pub use types::{AtLine, Script, Standard, Statement, StatementKind};
 
