@@ -1,5 +1,5 @@
 -- Reports that answer a script: its statements are taken in order, and each takes the records that it asks for.
-use Rattle.std.specs.Prelude.{ℕ, ⊤, ◌≡◌, ◌<◌, ◌≤◌, List, [], ◌∷◌, ◌++◌}
+use Rattle.std.specs.Prelude.{ℕ, ⊤, ◌≡◌, ◌<◌, ◌≤◌, List, [], ◌∷◌, ◌++◌, Contains}
 use Rattle.quiver_paths.specs.PathList.{path_count, saturated}
 use Rattle.script_lang.specs.declared.types.Script.{Script}
 use Rattle.script_lang.specs.declared.types.Statement.{Statement}
@@ -24,15 +24,15 @@ pub data Stage : Type 0 where
 abbrev pub HasFewPaths : Script → Type 0
 HasFewPaths script = path_count script.header.quiver script.header.bound ≤ path_limit
 
--- the claim of `basis`
-abbrev pub IsBasisClaim : Claim → Type 0
-IsBasisClaim (Basis words steps rules) = ⊤
+-- the claim is one that `basis` asks for
+abbrev pub AnswersBasis : Claim → Type 0
+AnswersBasis (Basis words steps rules) = ⊤
 
 -- the record that `basis` asks for
 pub record IsBasisRecord (script : Script) (r : Record) : Type 0 where
   pub few : HasFewPaths script
   pub line : r.line ≡ script.basis_line
-  pub claim : IsBasisClaim r.claim
+  pub claim : AnswersBasis r.claim
 
 -- The record may come next for a statement of this kind behind these records. No kind of statement is built yet.
 abbrev pub IsNext : StatementKind → List Record → Claim → Type 0
@@ -90,3 +90,11 @@ pub record AnswersScript (script : Script) (report : Report) : Type 0 where
 pub record BeginsToAnswer (script : Script) (records : List Record) : Type 0 where
   pub stage : Stage
   pub makes : Makes script records stage
+
+-- a statement of the script, that of this line, is refused for this behind the records `now` that it had written
+pub record RefusesStatement (script : Script) (line : ℕ) (why : Why) : Type 0 where
+  pub statement : Statement
+  pub now : List Record
+  pub listed : Contains script.statements statement
+  pub place : line ≡ statement.line
+  pub refused : IsRefusedFor statement.kind now why

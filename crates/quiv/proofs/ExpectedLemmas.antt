@@ -11,8 +11,13 @@ use Rattle.claim_types.specs.Numbered.{ConditionsHold}
 use Rattle.claim_types.specs.declared.verdicts.Clause.{Clause}
 use Rattle.claim_types.specs.declared.verdicts.Verdict.{Verdict}
 use Rattle.claim_types.specs.declared.verdicts.Verdict.TheVariants as verdict
+use Rattle.claim_types.specs.declared.reports.End.TheVariants as end
+use Rattle.claim_types.specs.Answers.{HasFewPaths}
 use Rattle.claim_types.proofs.ClaimLaws.{one_verdict}
+use Rattle.claim_types.proofs.EndLaws.{done_without_statements}
 use Rattle.claim_text.proofs.ReportLaws.{one_report, report_not_bad}
+use Rattle.script_lang.specs.declared.types.Script.{Script}
+use Rattle.script_lang.specs.Scripts.{IsScript}
 use Rattle.script_lang.proofs.ScriptLaws.{one_script, script_not_bad}
 use Rattle.script_run.specs.Runs.{IsRightReport}
 use Rattle.quiv.specs.declared.outcome.Outcome.{Outcome}
@@ -101,3 +106,14 @@ module _ (words : List (List ℕ)) (left left' taken taken' : Option (List ℕ))
 -- what `run` writes with Done is accepted
 pub accepted : (input text : List ℕ) → Answers Run Done input text → IsGood Check text
 accepted input text a = record { report = a.report; reads = record { report_is = a.right.lawful; spelled = a.spelled }; conditions = a.right.conditions }
+
+-- a script without statements, with few paths below its bound
+done_differs : (line : ℕ) (why : Why) → end.Done ≡ end.Refused line why → ⊥
+done_differs line why e = cc
+
+pub without_statements : (input : List ℕ) (script : Script) → IsScript input script → HasFewPaths script → script.statements ≡ [] → IsGood Run input
+without_statements input script reads few empty = record {
+  script = script;
+  reads = reads;
+  never = λ report line why right refused. done_differs line why (sym (done_without_statements script report few empty right.answers) ∙ refused);
+}
