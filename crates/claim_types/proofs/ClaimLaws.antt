@@ -27,7 +27,7 @@ use Rattle.claim_types.specs.Numbered.{Holds, ConditionsHold, FailsFirst}
 use Rattle.claim_types.specs.Verdicts.{IsFirstFailure, IsVerdict}
 use Rattle.claim_types.specs.Lawful.{IsBasisBlock, IsWrittenRule, IsFirstClaim, AreRecords, IsReport}
 use Rattle.claim_types.specs.Answers.{AnswersScript, BeginsToAnswer}
-use Rattle.script_lang.specs.declared.types.Script.{Script}
+use Rattle.script_types.specs.declared.Script.{Script}
 
 -- what the format asks of a basis claim is what its conditions presuppose
 claim_of_block : (h : Header) (words : List Path) (steps : List Step) (rules : List Rule) → IsBasisBlock h words steps rules → IsBasisClaim h words steps rules

@@ -2,8 +2,8 @@
 use Rattle.std.proofs.Common.{ℕ, ◌≡◌, List, [], ◌∷◌, refl, subst, arith}
 use Rattle.std.specs.Prelude.{⊤, Contains}
 use Rattle.quiver_paths.proofs.ListLemmas.{Contains-head, Contains-behind, Contains-nil}
-use Rattle.script_lang.specs.declared.types.Script.{Script}
-use Rattle.script_lang.specs.declared.types.Statement.{Statement}
+use Rattle.script_types.specs.declared.Script.{Script}
+use Rattle.script_types.specs.declared.Statement.{Statement}
 use Rattle.claim_types.specs.declared.claims.Record.{Record}
 use Rattle.claim_types.specs.declared.reports.Report.{Report}
 use Rattle.claim_types.specs.declared.reports.Why.{Why}

@@ -1,9 +1,9 @@
 -- Reports that answer a script: its statements are taken in order, and each takes the records that it asks for.
 use Rattle.std.specs.Prelude.{ℕ, ⊤, ◌≡◌, ◌<◌, ◌≤◌, List, [], ◌∷◌, ◌++◌, Contains}
 use Rattle.quiver_paths.specs.PathList.{path_count, saturated}
-use Rattle.script_lang.specs.declared.types.Script.{Script}
-use Rattle.script_lang.specs.declared.types.Statement.{Statement}
-use Rattle.script_lang.specs.declared.types.StatementKind.{StatementKind}
+use Rattle.script_types.specs.declared.Script.{Script}
+use Rattle.script_types.specs.declared.Statement.{Statement}
+use Rattle.script_types.specs.declared.StatementKind.{StatementKind}
 use Rattle.claim_types.specs.declared.claims.Claim.{Claim}
 use Rattle.claim_types.specs.declared.claims.Claim.TheVariants.{Basis}
 use Rattle.claim_types.specs.declared.claims.Record.{Record}

@@ -7,7 +7,7 @@ ghost use Rattle.claim_types.specs.declared.verdicts.Verdict.{Verdict};
 ghost use Rattle.claim_types.specs.Lawful.{IsReport};
 ghost use Rattle.claim_types.specs.Numbered.{Holds, ConditionsHold};
 ghost use Rattle.claim_types.specs.Verdicts.{IsVerdict};
-ghost use Rattle.script_lang.specs.declared.types.Script.{Script};
+ghost use Rattle.script_types.specs.declared.Script.{Script};
 ghost use Rattle.claim_types.specs.Answers.{HasFewPaths, AnswersScript, BeginsToAnswer, RefusesStatement};
 
 /// Where the conditions hold of claims 1 to k of a report, claim k holds.

@@ -16,7 +16,7 @@ use Rattle.claim_types.specs.Answers.{HasFewPaths}
 use Rattle.claim_types.proofs.ClaimLaws.{one_verdict}
 use Rattle.claim_types.proofs.EndLaws.{done_without_statements}
 use Rattle.claim_text.proofs.ReportLaws.{one_report, report_not_bad}
-use Rattle.script_lang.specs.declared.types.Script.{Script}
+use Rattle.script_types.specs.declared.Script.{Script}
 use Rattle.script_lang.specs.Scripts.{IsScript}
 use Rattle.script_lang.proofs.ScriptLaws.{one_script, script_not_bad}
 use Rattle.script_run.specs.Runs.{IsRightReport}

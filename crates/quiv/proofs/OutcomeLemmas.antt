@@ -6,7 +6,7 @@ use Rattle.quiv_io.specs.Counts.{Rose}
 use Rattle.quiv_io.specs.Bytes.{Takes, TakesFront}
 use Rattle.quiv_io.specs.Whole.{GivesAll, GivesBefore}
 use Rattle.quiv_io.specs.declared.whole.ReadError.TheVariants.{TooLong as ReadTooLong}
-use Rattle.script_lang.specs.declared.types.Script.{Script}
+use Rattle.script_types.specs.declared.Script.{Script}
 use Rattle.script_lang.specs.Scripts.{IsScript, IsBadLine as IsBadScriptLine}
 use Rattle.claim_types.specs.declared.reports.End.{End}
 use Rattle.claim_types.specs.declared.reports.End.TheVariants as end

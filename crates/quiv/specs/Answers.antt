@@ -1,6 +1,6 @@
 -- What each mode answers to an input that was read to its end: an outcome and a text.
 use Rattle.std.specs.Prelude.{ℕ, ◌≡◌, List, length}
-use Rattle.script_lang.specs.declared.types.Script.{Script}
+use Rattle.script_types.specs.declared.Script.{Script}
 use Rattle.script_lang.specs.Scripts.{IsScript, IsBadLine as IsBadScriptLine}
 use Rattle.claim_types.specs.declared.reports.End.{End}
 use Rattle.claim_types.specs.declared.reports.End.TheVariants as end

@@ -1,6 +1,6 @@
 -- Inputs with which a run of the program ends well where no fault is counted and memory is there.
 use Rattle.std.specs.Prelude.{ℕ, ⊤, ◌≡◌, List}
-use Rattle.script_lang.specs.declared.types.Script.{Script}
+use Rattle.script_types.specs.declared.Script.{Script}
 use Rattle.script_lang.specs.Scripts.{IsScript}
 use Rattle.claim_types.specs.declared.reports.Report.{Report}
 use Rattle.claim_types.specs.declared.reports.Why.{Why}

@@ -1,6 +1,6 @@
 //! What holds of answers. The functions do nothing: their contracts are laws.
 ghost use Rattle.std.specs.Prelude.{ℕ, ◌≡◌, List, []};
-ghost use Rattle.script_lang.specs.declared.types.Script.{Script};
+ghost use Rattle.script_types.specs.declared.Script.{Script};
 ghost use Rattle.script_lang.specs.Scripts.{IsScript};
 ghost use Rattle.claim_types.specs.Answers.{HasFewPaths};
 ghost use Rattle.quiv.specs.declared.outcome.Outcome.TheVariants.{Done};

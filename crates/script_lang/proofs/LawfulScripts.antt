@@ -2,12 +2,12 @@
 use Rattle.std.proofs.Common.{◌≡◌, ℕ, ◌≤◌, List, length, sym, subst, arith}
 use Rattle.std.proofs.lemmas.List.Elements.{All-weaker}
 use Rattle.text_lines.specs.Lines.{lines}
-use Rattle.script_lang.specs.declared.types.Script.{Script}
-use Rattle.script_lang.specs.declared.types.Statement.{Statement}
+use Rattle.script_types.specs.declared.Script.{Script}
+use Rattle.script_types.specs.declared.Statement.{Statement}
 use Rattle.script_lang.specs.declared.part.Part.{Part}
 use Rattle.text_lines.specs.Reading.{ReadsWhole}
 use Rattle.script_lang.specs.Scripts.{Step, MayEnd, start, script_of, IsScript}
-use Rattle.script_lang.specs.Lawful.{IsInOrder, IsLawful}
+use Rattle.script_types.specs.Lawful.{IsInOrder, IsLawful}
 use Rattle.script_lang.proofs.SoundParts.{InBody, reads_sound, start_sound, ended_allowed, ended_body}
 use Rattle.script_lang.proofs.LineSizes.{count_reads, total-lines, length-lines}
 

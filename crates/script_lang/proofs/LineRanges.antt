@@ -10,9 +10,9 @@ use Rattle.quiver_paths.specs.declared.names.Reference.{Reference}
 use Rattle.path_algebra.specs.Allowed.{IsArrowName}
 use Rattle.path_algebra.specs.declared.Header.{Header}
 use Rattle.path_algebra.specs.declared.Relation.{Relation}
-use Rattle.script_lang.specs.declared.types.AtLine.{AtLine}
-use Rattle.script_lang.specs.declared.types.Standard.{Standard}
-use Rattle.script_lang.specs.declared.types.StatementKind.{StatementKind}
+use Rattle.script_types.specs.declared.AtLine.{AtLine}
+use Rattle.script_types.specs.declared.Standard.{Standard}
+use Rattle.script_types.specs.declared.StatementKind.{StatementKind}
 use Rattle.script_lang.specs.declared.line.Line.{Line}
 use Rattle.script_lang.specs.declared.line.Line.TheVariants as line
 use Rattle.script_lang.specs.Tokens.{is_word, vertex_in, name_in, number_to, reference_in}
@@ -20,7 +20,7 @@ use Rattle.script_lang.specs.Arguments.{one_of, two_of, three_of, four_of, numbe
 use Rattle.script_lang.specs.Statements.{NameReference, name_reference, unary_of, unary_in, unary_from, standard_in, std_kind, std_of, sum_kind, sum_of, map_kind, map_of, hom_kind, hom_of, resolve_kind, resolve_of, ext_kind, ext_of, decompose_kind, decompose_of, ars_kind, ars_of, plain_in, rep_kind, rep_in}
 use Rattle.script_lang.specs.Lines.{field_of, field_from, vertex_of, vertex_from, arrow_of, arrow_from, bound_of, bound_from, nothing_in, statement_line, short_in, at_line, at_in, relation_line, line_in}
 use Rattle.script_lang.specs.Relations.{relation_in}
-use Rattle.script_lang.specs.Ranges.{IsReference, IsRow, IsAtLine, IsNewFrom, IsStatement}
+use Rattle.script_types.specs.Ranges.{IsReference, IsRow, IsAtLine, IsNewFrom, IsStatement}
 use Rattle.script_lang.proofs.StatementSizes.{IsLong, rep_long, plain_long}
 use Rattle.script_lang.proofs.TokenRanges.{either_way, vertex_named, name_named, number_small, reference_fits, numbers_small, matrix_fits}
 

@@ -11,8 +11,8 @@ use Rattle.text_lines.specs.Lines.{lines}
 use Rattle.text_lines.specs.Script.{is_blank, is_plain, is_some_word, words, without_last, script_bytes, uncommented, script_tokens}
 use Rattle.text_lines.specs.Reading.{Reads}
 use Rattle.path_algebra.specs.declared.Header.{Header}
-use Rattle.script_lang.specs.declared.types.AtLine.{AtLine}
-use Rattle.script_lang.specs.declared.types.Statement.{Statement}
+use Rattle.script_types.specs.declared.AtLine.{AtLine}
+use Rattle.script_types.specs.declared.Statement.{Statement}
 use Rattle.script_lang.specs.declared.line.Line.{Line}
 use Rattle.script_lang.specs.declared.line.Line.TheVariants as line
 use Rattle.script_lang.specs.declared.part.Place.{Place}

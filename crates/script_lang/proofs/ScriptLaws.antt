@@ -3,7 +3,7 @@ use Rattle.std.proofs.Common.{◌≡◌, ℕ, ◌+◌, List, [], ◌∷◌, Some
 use Rattle.text_lines.specs.Reading.{Reads, ReadsWhole, IsFirstBad}
 use Rattle.text_lines.specs.Lines.{lines}
 use Rattle.text_lines.proofs.Readings.{whole_not_bad, one_bad}
-use Rattle.script_lang.specs.declared.types.Script.{Script}
+use Rattle.script_types.specs.declared.Script.{Script}
 use Rattle.script_lang.specs.declared.part.Part.{Part}
 use Rattle.std.specs.declared.option.Option.{Option}
 use Rattle.text_lines.specs.Script.{script_tokens}

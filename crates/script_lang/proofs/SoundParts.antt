@@ -15,9 +15,9 @@ use Rattle.header_text.specs.declared.forms.Form.TheVariants as form
 use Rattle.header_text.specs.Part.{Part as Front, IsFront}
 use Rattle.header_text.proofs.FrontLemmas.{front_after, allowed_at_end, start_front}
 use Rattle.text_lines.specs.Reading.{Reads}
-use Rattle.script_lang.specs.declared.types.AtLine.{AtLine}
-use Rattle.script_lang.specs.declared.types.Statement.{Statement}
-use Rattle.script_lang.specs.declared.types.StatementKind.{StatementKind}
+use Rattle.script_types.specs.declared.AtLine.{AtLine}
+use Rattle.script_types.specs.declared.Statement.{Statement}
+use Rattle.script_types.specs.declared.StatementKind.{StatementKind}
 use Rattle.script_lang.specs.declared.line.Line.{Line}
 use Rattle.script_lang.specs.declared.line.Line.TheVariants as line
 use Rattle.script_lang.specs.declared.part.Place.{Place}
@@ -27,7 +27,7 @@ use Rattle.script_lang.specs.Tokens.{is_word}
 use Rattle.script_lang.specs.Lines.{line_in}
 use Rattle.script_lang.specs.Parts.{FitsField, FitsVertex, FitsArrow, FitsBound, FitsRelation, FitsBasis, FitsStatement, MayFollow, after, with_field, with_vertex, with_arrow, with_bound, with_relation, with_basis, with_statement, awaits_arrows, vertex_place, place_or_first, opens, takes_at, place_with, kind_with, is_block, closed}
 use Rattle.script_lang.specs.Scripts.{counted, TokenStep, Step, start}
-use Rattle.script_lang.specs.Ranges.{IsAtLine, IsStatement}
+use Rattle.script_types.specs.Ranges.{IsAtLine, IsStatement}
 use Rattle.script_lang.proofs.LineRanges.{IsLine, IsWritten, line_fits}
 use Rattle.script_lang.proofs.SoundStatements.{AreSound, IsNext, sound_none, sound_further, next_further, next_here, sound_push, kind_with_fits}
 

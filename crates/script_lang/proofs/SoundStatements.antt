@@ -5,12 +5,12 @@ use Rattle.std.proofs.lemmas.List.Elements.{All-nil, All-push, All-weaker}
 use Rattle.std.proofs.lemmas.List.Quantifiers.{all_pairs_push}
 use Rattle.linear_algebra.specs.Field.{Gf}
 use Rattle.path_algebra.specs.Allowed.{IsArrowName}
-use Rattle.script_lang.specs.declared.types.AtLine.{AtLine}
-use Rattle.script_lang.specs.declared.types.Statement.{Statement}
-use Rattle.script_lang.specs.declared.types.StatementKind.{StatementKind}
-use Rattle.script_lang.specs.declared.types.StatementKind.TheVariants.{Rep, Std, Sum, Map, Kernel, Cokernel, Radical, Dual, Hom, Resolve, Ext, Decompose, Transpose, Tau, Taui, Ars}
+use Rattle.script_types.specs.declared.AtLine.{AtLine}
+use Rattle.script_types.specs.declared.Statement.{Statement}
+use Rattle.script_types.specs.declared.StatementKind.{StatementKind}
+use Rattle.script_types.specs.declared.StatementKind.TheVariants.{Rep, Std, Sum, Map, Kernel, Cokernel, Radical, Dual, Hom, Resolve, Ext, Decompose, Transpose, Tau, Taui, Ars}
 use Rattle.script_lang.specs.Parts.{kind_takes, kind_with}
-use Rattle.script_lang.specs.Ranges.{IsAtLine, IsStatement}
+use Rattle.script_types.specs.Ranges.{IsAtLine, IsStatement}
 
 -- statements over a field, their lines ascending behind `low` and up to `high`
 pub record AreSound (f : Gf) (low high : ℕ) (ss : List Statement) : Type 0 where

@@ -3,7 +3,7 @@ use Rattle.std.proofs.Common.{◌≡◌, ℕ, ◌≤◌, List, [], ◌∷◌, le
 use Rattle.std.specs.Prelude.{IfSome}
 use Rattle.std.specs.declared.option.Option.{Option}
 use Rattle.std.proofs.lemmas.Slice.Eq.{bytes_eq-Decides}
-use Rattle.script_lang.specs.declared.types.StatementKind.{StatementKind}
+use Rattle.script_types.specs.declared.StatementKind.{StatementKind}
 use Rattle.script_lang.specs.Tokens.{is_word, name_in}
 use Rattle.script_lang.specs.Statements.{NameReference, unary_in, unary_from, plain_in, rep_kind, rep_in}
 use Rattle.script_lang.proofs.TokenRanges.{either_way}

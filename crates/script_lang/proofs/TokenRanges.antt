@@ -18,7 +18,7 @@ use Rattle.text_lines.proofs.Digits.{written_is_decimal}
 use Rattle.text_lines.proofs.ShortNumbers.{number-both}
 use Rattle.script_lang.specs.Tokens.{is_word, is_name, vertex_in, name_in, within, number_to, part_of, suffix_in, with_suffix, reference_from, reference_in}
 use Rattle.script_lang.specs.Arguments.{before, numbers_in, is_slash, row_in, rows_in, matrix_in}
-use Rattle.script_lang.specs.Ranges.{IsSuffix, IsReference, IsRow}
+use Rattle.script_types.specs.Ranges.{IsSuffix, IsReference, IsRow}
 use Rattle.script_lang.proofs.NameLaws.{both, true_is_name}
 
 -- what holds in both cases of a test

@@ -7,5 +7,3 @@ pub mod Parts
 pub mod Scripts
 pub mod Refusals
 pub mod Determined
-pub mod Ranges
-pub mod Lawful

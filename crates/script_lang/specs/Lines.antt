@@ -5,7 +5,7 @@ use Rattle.linear_algebra.specs.Field.{order}
 use Rattle.fp_linear.specs.Sizes.{field_of as field_of_size}
 use Rattle.path_algebra.specs.declared.Header.{Header}
 use Rattle.path_algebra.specs.declared.Relation.{Relation}
-use Rattle.script_lang.specs.declared.types.StatementKind.{StatementKind}
+use Rattle.script_types.specs.declared.StatementKind.{StatementKind}
 use Rattle.script_lang.specs.declared.line.Line.{Line}
 use Rattle.script_lang.specs.declared.line.Line.TheVariants as line
 use Rattle.script_lang.specs.Tokens.{is_word, vertex_in, name_in, number_to}

@@ -7,10 +7,10 @@ use Rattle.quiver_paths.specs.declared.Arrow.{Arrow}
 use Rattle.quiver_paths.specs.Quiver.{vertex_count, arrow_count}
 use Rattle.path_algebra.specs.declared.Relation.{Relation}
 use Rattle.path_algebra.specs.Allowed.{IsRelation, is_letter}
-use Rattle.script_lang.specs.declared.types.AtLine.{AtLine}
-use Rattle.script_lang.specs.declared.types.Statement.{Statement}
-use Rattle.script_lang.specs.declared.types.StatementKind.{StatementKind}
-use Rattle.script_lang.specs.declared.types.StatementKind.TheVariants.{Rep, Map}
+use Rattle.script_types.specs.declared.AtLine.{AtLine}
+use Rattle.script_types.specs.declared.Statement.{Statement}
+use Rattle.script_types.specs.declared.StatementKind.{StatementKind}
+use Rattle.script_types.specs.declared.StatementKind.TheVariants.{Rep, Map}
 use Rattle.script_lang.specs.declared.line.Line.{Line}
 use Rattle.script_lang.specs.declared.line.Line.TheVariants as line
 use Rattle.script_lang.specs.declared.part.Place.{Place}

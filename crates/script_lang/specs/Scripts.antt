@@ -4,7 +4,7 @@ use Rattle.linear_algebra.specs.Field.{f2}
 use Rattle.text_lines.specs.Lines.{lines}
 use Rattle.text_lines.specs.Script.{script_tokens}
 use Rattle.text_lines.specs.Reading.{ReadsWhole, IsFirstBad}
-use Rattle.script_lang.specs.declared.types.Script.{Script}
+use Rattle.script_types.specs.declared.Script.{Script}
 use Rattle.script_lang.specs.declared.line.Line.{Line}
 use Rattle.script_lang.specs.declared.part.Part.{Part}
 use Rattle.script_lang.specs.declared.part.Place.TheVariants.{Start, Body}

@@ -2,10 +2,10 @@
 use Rattle.std.specs.Prelude.{ℕ, List, [], ◌∷◌, codes, if◌then◌else◌, Some, None}
 use Rattle.std.specs.declared.option.Option.{Option}
 use Rattle.quiver_paths.specs.declared.names.Reference.{Reference}
-use Rattle.script_lang.specs.declared.types.Standard.{Standard}
-use Rattle.script_lang.specs.declared.types.Standard.TheVariants.{Simple, Projective, Injective}
-use Rattle.script_lang.specs.declared.types.StatementKind.{StatementKind}
-use Rattle.script_lang.specs.declared.types.StatementKind.TheVariants as kind
+use Rattle.script_types.specs.declared.Standard.{Standard}
+use Rattle.script_types.specs.declared.Standard.TheVariants.{Simple, Projective, Injective}
+use Rattle.script_types.specs.declared.StatementKind.{StatementKind}
+use Rattle.script_types.specs.declared.StatementKind.TheVariants as kind
 use Rattle.script_lang.specs.Tokens.{is_word, vertex_in, name_in, number_to, reference_in}
 use Rattle.script_lang.specs.Arguments.{two_of, three_of, four_of, numbers_in}
 

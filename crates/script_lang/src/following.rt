@@ -7,11 +7,11 @@ use super::line::Line;
 use super::part::{Part, Place};
 use super::related::is_relation;
 use super::tokens::{is_word, letter};
-use super::types::{AtLine, Statement, StatementKind};
 use fp_linear::Field;
 use header_text::{is_new_arrow, is_new_vertex};
 use path_algebra::Relation;
 use quiver_paths::{Arrow, Name};
+use script_types::{AtLine, Statement, StatementKind};
 use std::alloc::AllocError;
 use std::mem;
 

@@ -1,8 +1,8 @@
 //! Laws of scripts as texts.
 ghost use Rattle.std.specs.Prelude.{ℕ, ◌≡◌, ◌≤◌, ◌⊎◌, List, length};
-ghost use Rattle.script_lang.specs.declared.types.Script.{Script};
+ghost use Rattle.script_types.specs.declared.Script.{Script};
 ghost use Rattle.script_lang.specs.Scripts.{IsScript, IsBadLine};
-ghost use Rattle.script_lang.specs.Lawful.{IsLawful};
+ghost use Rattle.script_types.specs.Lawful.{IsLawful};
 
 /// A text reads as exactly one script or has exactly one first bad line, and never both.
 pub fn texts_are_read_once()

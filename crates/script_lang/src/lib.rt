@@ -1,4 +1,4 @@
-//! The script language: what a script says, and how its text is read.
+//! The script language: how the text of a script is read.
 #![tactic(auto)]
 
 mod arguments;
@@ -11,10 +11,8 @@ mod related;
 mod relations;
 mod statements;
 mod tokens;
-mod types;
 
 pub use reader::{ParseError, parse};
-pub use types::{AtLine, Script, Standard, Statement, StatementKind};
 
 #[cfg(test)]
 mod tests;

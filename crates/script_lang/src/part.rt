@@ -1,7 +1,7 @@
 //! What has been read of a script.
 
-use super::types::Statement;
 use path_algebra::Header;
+use script_types::Statement;
 use seq::Seq;
 
 /// Where a script stands: before its `field`, among its vertices, its arrows, its relations, its statements, or among the

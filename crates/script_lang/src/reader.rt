@@ -3,15 +3,15 @@ ghost use Rattle.std.specs.Prelude.{◌≡◌, ◌≤◌, length, IfOk, IfErr, M
 ghost use Rattle.script_lang.specs.declared.part.Part.{Part};
 ghost use Rattle.script_lang.specs.Parts.{IsSmall};
 ghost use Rattle.script_lang.specs.Scripts.{counted, TokenStep, start, script_of, IsScript};
-ghost use Rattle.script_lang.specs.Lawful.{IsLawful};
+ghost use Rattle.script_types.specs.Lawful.{IsLawful};
 ghost use Rattle.script_lang.specs.Refusals.{IsRefused};
 
 use super::line::read_line;
 use super::part::{Part, Place};
-use super::types::Script;
 use fp_linear::Field;
 use path_algebra::Header;
 use quiver_paths::Quiver;
+use script_types::Script;
 use seq::Seq;
 use std::alloc::{AllocError, Global};
 use std::marker::Model;

@@ -5,8 +5,8 @@ ghost use Rattle.script_lang.specs.Statements.{name_reference, unary_in, unary_k
 
 use super::arguments::{four_words, read_numbers, three_words, two_words};
 use super::tokens::{is_word, read_name, read_number, read_reference, read_vertex};
-use super::types::{Standard, StatementKind};
 use quiver_paths::{Name, Reference};
+use script_types::{Standard, StatementKind};
 use seq::Seq;
 use std::alloc::{AllocError, Global};
 use text_lines::Words;

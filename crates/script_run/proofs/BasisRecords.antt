@@ -15,8 +15,8 @@ use Rattle.path_algebra.specs.Words.{IsShortPath}
 use Rattle.path_algebra.specs.Rules.{AreElementTerms}
 use Rattle.path_algebra.specs.Derivations.{IsNumber}
 use Rattle.path_algebra.specs.BasisClauses.{IsBasisClaim, MeetsClauses, RuleHolds}
-use Rattle.script_lang.specs.declared.types.Script.{Script}
-use Rattle.script_lang.specs.Lawful.{IsLawful}
+use Rattle.script_types.specs.declared.Script.{Script}
+use Rattle.script_types.specs.Lawful.{IsLawful}
 use Rattle.claim_types.specs.declared.claims.Claim.TheVariants.{Basis}
 use Rattle.claim_types.specs.Lawful.{AreWords, IsWrittenRule, IsBasisBlock}
 use Rattle.script_run.specs.Records.{IsRightRecord}

@@ -6,8 +6,8 @@ use Rattle.quiv_io.specs.Bytes.{Takes, TakesFront}
 use Rattle.quiv_io.specs.Counts.{Rose}
 use Rattle.quiv_io.proofs.Joined.{Takes-append}
 use Rattle.path_algebra.specs.declared.Header.{Header}
-use Rattle.script_lang.specs.declared.types.Script.{Script}
-use Rattle.script_lang.specs.Lawful.{IsLawful}
+use Rattle.script_types.specs.declared.Script.{Script}
+use Rattle.script_types.specs.Lawful.{IsLawful}
 use Rattle.claim_types.specs.declared.claims.Record.{Record}
 use Rattle.claim_types.specs.declared.reports.Report.{Report}
 use Rattle.claim_types.specs.declared.reports.End.{End}

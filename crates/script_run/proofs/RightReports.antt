@@ -6,9 +6,9 @@ use Rattle.std.proofs.lemmas.List.Elements.{All-head}
 use Rattle.quiver_paths.specs.PathList.{path_count}
 use Rattle.path_algebra.specs.declared.Header.{Header}
 use Rattle.path_algebra.specs.Allowed.{IsAllowed}
-use Rattle.script_lang.specs.declared.types.Script.{Script}
-use Rattle.script_lang.specs.declared.types.Statement.{Statement}
-use Rattle.script_lang.specs.Lawful.{IsLawful}
+use Rattle.script_types.specs.declared.Script.{Script}
+use Rattle.script_types.specs.declared.Statement.{Statement}
+use Rattle.script_types.specs.Lawful.{IsLawful}
 use Rattle.claim_types.specs.declared.claims.Record.{Record}
 use Rattle.claim_types.specs.declared.reports.Report.{Report}
 use Rattle.claim_types.specs.declared.reports.Why.TheVariants.{NotBuilt, PathLimit}

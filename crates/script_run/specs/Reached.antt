@@ -2,7 +2,7 @@
 use Rattle.std.specs.Prelude.{ℕ, ◌≡◌, ◌⊎◌, List}
 use Rattle.std.specs.declared.option.Option.{Option}
 use Rattle.quiv_io.specs.Bytes.{Takes}
-use Rattle.script_lang.specs.declared.types.Script.{Script}
+use Rattle.script_types.specs.declared.Script.{Script}
 use Rattle.claim_types.specs.declared.reports.Report.{Report}
 use Rattle.script_run.specs.declared.ends.Halt.{Halt}
 use Rattle.script_run.specs.declared.ends.Halt.TheVariants.{WriteFault, NoMemory}

@@ -1,6 +1,6 @@
 -- What is answered to the line `basis`.
 use Rattle.std.specs.Prelude.{◌≡◌}
-use Rattle.script_lang.specs.declared.types.Script.{Script}
+use Rattle.script_types.specs.declared.Script.{Script}
 use Rattle.claim_types.specs.declared.claims.Record.{Record}
 use Rattle.claim_types.specs.declared.reports.Report.{Report}
 use Rattle.claim_types.specs.Lawful.{IsFirstRecord}

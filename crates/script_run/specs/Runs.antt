@@ -3,7 +3,7 @@ use Rattle.std.specs.Prelude.{ℕ, ◌≡◌, ◌⊎◌, List, ◌++◌, length}
 use Rattle.std.specs.declared.option.Option.{Option}
 use Rattle.quiv_io.specs.Bytes.{Takes, TakesFront}
 use Rattle.quiv_io.specs.Counts.{Rose}
-use Rattle.script_lang.specs.declared.types.Script.{Script}
+use Rattle.script_types.specs.declared.Script.{Script}
 use Rattle.claim_types.specs.declared.reports.End.{End}
 use Rattle.claim_types.specs.declared.reports.End.TheVariants as end
 use Rattle.claim_types.specs.declared.reports.Report.{Report}

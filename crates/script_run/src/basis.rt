@@ -2,14 +2,14 @@
 ghost use Rattle.std.specs.Prelude.{◌≡◌, ◌<◌, ◌≤◌, ◌^◌, length, IfOk};
 ghost use Rattle.quiver_paths.specs.PathList.{path_count};
 ghost use Rattle.path_algebra.specs.BasisClauses.{IsBasisClaim, MeetsClauses};
-ghost use Rattle.script_lang.specs.Lawful.{IsLawful};
+ghost use Rattle.script_types.specs.Lawful.{IsLawful};
 ghost use Rattle.script_run.specs.Records.{IsRightRecord, IsBasisAnswer};
 
 use alg_table::Table;
 use claim_types::{Claim, Record};
 use path_basis::{Reduced, reduce_basis};
 use quiver_paths::{Path, PathError};
-use script_lang::Script;
+use script_types::Script;
 use seq::Seq;
 use std::alloc::{AllocError, Global};
 

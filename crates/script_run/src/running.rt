@@ -2,8 +2,8 @@
 ghost use Rattle.std.specs.Prelude.{ℕ, ◌≡◌, ◌≤◌, [], List};
 ghost use Rattle.std.specs.declared.option.Option.{Option};
 ghost use Rattle.claim_types.specs.Answers.{EndsAtStatements};
-ghost use Rattle.script_lang.specs.declared.types.Script.{Script};
-ghost use Rattle.script_lang.specs.Lawful.{IsLawful};
+ghost use Rattle.script_types.specs.declared.Script.{Script};
+ghost use Rattle.script_types.specs.Lawful.{IsLawful};
 ghost use Rattle.script_run.specs.Records.{IsRightRecord};
 ghost use Rattle.script_run.specs.Runs.{RunsTo};
 ghost use Rattle.script_run.specs.Reached.{IsReached, IsHalted};
@@ -13,7 +13,7 @@ use crate::ends::{Halt, RunEnd};
 use crate::writing::{write_first, write_front, write_last};
 use claim_types::{End, Record, Report, Why};
 use quiv_io::Sink;
-use script_lang::Script;
+use script_types::Script;
 use std::alloc::Global;
 
 /// Answers the statements of a script in their order and writes the report to the sink, record by record: each record's text is made

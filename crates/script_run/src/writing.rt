@@ -3,8 +3,8 @@ ghost use Rattle.std.specs.Prelude.{ℕ, ◌≡◌, ◌<◌, ◌≤◌, ◌∷�
 ghost use Rattle.std.specs.declared.option.Option.{Option};
 ghost use Rattle.quiv_io.specs.Counts.{Rose};
 ghost use Rattle.quiv_io.specs.Bytes.{Takes, TakesFront};
-ghost use Rattle.script_lang.specs.declared.types.Script.{Script};
-ghost use Rattle.script_lang.specs.Lawful.{IsLawful};
+ghost use Rattle.script_types.specs.declared.Script.{Script};
+ghost use Rattle.script_types.specs.Lawful.{IsLawful};
 ghost use Rattle.script_run.specs.Records.{IsRightRecord};
 ghost use Rattle.script_run.specs.Runs.{IsRightReport, RunsTo};
 ghost use Rattle.script_run.specs.Reached.{IsReached, IsHalted, run_end};
@@ -13,7 +13,7 @@ use crate::ends::{Halt, RunEnd};
 use claim_text::{write_end, write_header, write_record};
 use claim_types::{End, Record, Report};
 use quiv_io::{Sink, write_whole};
-use script_lang::Script;
+use script_types::Script;
 use seq::Seq;
 use std::alloc::Global;
 

@@ -7,9 +7,9 @@ use Rattle.quiver_paths.specs.declared.names.Suffix.{Suffix}
 use Rattle.quiver_paths.specs.declared.names.Suffix.TheVariants.{Part}
 use Rattle.quiver_paths.specs.declared.names.Reference.{Reference}
 use Rattle.path_algebra.specs.Allowed.{IsArrowName}
-use Rattle.script_lang.specs.declared.types.AtLine.{AtLine}
-use Rattle.script_lang.specs.declared.types.StatementKind.{StatementKind}
-use Rattle.script_lang.specs.declared.types.StatementKind.TheVariants.{Rep, Std, Sum, Map, Kernel, Cokernel, Radical, Dual, Hom, Resolve, Ext, Decompose, Transpose, Tau, Taui, Ars}
+use Rattle.script_types.specs.declared.AtLine.{AtLine}
+use Rattle.script_types.specs.declared.StatementKind.{StatementKind}
+use Rattle.script_types.specs.declared.StatementKind.TheVariants.{Rep, Std, Sum, Map, Kernel, Cokernel, Radical, Dual, Hom, Resolve, Ext, Decompose, Transpose, Tau, Taui, Ars}
 
 -- the name of a module or a map has the form of an arrow's
 abbrev pub IsScriptName : List ℕ → Type 0

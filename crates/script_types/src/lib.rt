@@ -1,4 +1,5 @@
-//! What a script says.
+//! What a script says: the types of scripts, and what holds of each that is read.
+#![tactic(auto)]
 
 use path_algebra::Header;
 use quiver_paths::{Name, Reference};

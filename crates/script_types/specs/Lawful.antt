@@ -1,9 +1,9 @@
 -- What holds of each script that a text of at most 4,194,304 bytes reads as.
 use Rattle.std.specs.Prelude.{◌<◌, ◌≤◌, length, All, AllPairs}
 use Rattle.path_algebra.specs.Allowed.{IsAllowed}
-use Rattle.script_lang.specs.declared.types.Script.{Script}
-use Rattle.script_lang.specs.declared.types.Statement.{Statement}
-use Rattle.script_lang.specs.Ranges.{IsStatement}
+use Rattle.script_types.specs.declared.Script.{Script}
+use Rattle.script_types.specs.declared.Statement.{Statement}
+use Rattle.script_types.specs.Ranges.{IsStatement}
 
 -- the lines of `bound`, of `basis` and of the statements stand in this order
 pub record IsInOrder (s : Script) : Type 0 where
