@@ -34,18 +34,20 @@ use Rattle.claim_types.specs.declared.claims.Record.{Record}
 use Rattle.claim_types.specs.declared.reports.Report.{Report}
 use Rattle.claim_types.specs.Limits.{IsLine}
 use Rattle.claim_types.specs.Lawful.{AreWords, AreWrittenSteps, IsWrittenRule, AreWrittenRules, IsBasisBlock, IsFirstClaim, IsEmptyEnd, IsFullEnd}
-use Rattle.claim_text.specs.declared.part.First.TheVariants as first
+use Rattle.claim_lines.specs.declared.ends.First.TheVariants as first
 use Rattle.claim_text.specs.declared.part.Place.{Place}
 use Rattle.claim_text.specs.declared.part.Place.TheVariants as place
 use Rattle.claim_text.specs.declared.part.Part.{Part}
-use Rattle.claim_text.specs.Spelling.{title_line, basis_line, words_line, word_line, steps_line, step_line, step_lines, rules_line, rule_line, block_lines, claim_lines, end_line}
-use Rattle.claim_text.specs.Items.{IsCount, counted, FitsFirst, first_line, FitsWord, FitsStep, FitsRule}
+use Rattle.claim_lines.specs.Spelling.{title_line, basis_line, words_line, word_line, steps_line, step_line, rules_line, rule_line, end_line}
+use Rattle.claim_text.specs.Spelling.{step_lines, block_lines, lines_of_claim}
+use Rattle.claim_lines.specs.Items.{IsCount, counted, FitsFirst, first_line, FitsWord, FitsStep, FitsRule}
 use Rattle.claim_text.specs.Part.{words_place, steps_place, rules_place, with_first, with_word_count, with_word, with_step_count, with_step, with_rule_count, with_rule, with_end, report_of, start}
 use Rattle.claim_text.specs.Steps.{Takes, TokenStep, begins_body, lexed_begins, is_header_line, StepBy, Step}
-use Rattle.claim_text.proofs.EndReading.{one_first, one_end}
-use Rattle.claim_text.proofs.TakenLines.{one_fitting_word, one_fitting_step, one_fitting_rule, takes_number}
+use Rattle.claim_lines.proofs.EndReading.{one_first, one_end}
+use Rattle.claim_lines.proofs.FittingLines.{one_fitting_word, one_fitting_step, one_fitting_rule}
+use Rattle.claim_text.proofs.TakenLines.{takes_number}
 use Rattle.claim_text.proofs.SoundReading.{one_record}
-use Rattle.claim_text.proofs.Clear.{ClearLine, space, title_clear, first_clear, words_clear, word_clear, steps_clear, step_clear, rules_clear, rule_clear, end_clear}
+use Rattle.claim_lines.proofs.Clear.{ClearLine, space, title_clear, first_clear, words_clear, word_clear, steps_clear, step_clear, rules_clear, rule_clear, end_clear}
 
 -- a line of tokens that may follow at a place
 step_of : (p q : Part) (ts : List (List ℕ)) → ClearLine 32 ts → is_header_line p.place (strict_line ts) ≡ false → TokenStep p.place p ts q → Step p (strict_line ts) q
@@ -324,12 +326,12 @@ report_same : (h : Header) (rs ss : List Record) (e : End) → rs ≡ ss → ◌
 report_same h rs ss e same = ap (λ (x : List Record). record { header = h; records = x; end = e }) same
 
 pub claim_read : (h : Header) (line : ℕ) (c : Claim) (e : End) → IsAllowed h → IsLine line → IsFirstClaim h c → IsFullEnd e
-    → ReadsTo (record { header = h; records = record { line = line; claim = c } ∷ []; end = e }) (map strict_line (title_line ∷ header_lines h) ++ map strict_line (claim_lines h.quiver 1 line c ++ end_line 1 e ∷ []))
+    → ReadsTo (record { header = h; records = record { line = line; claim = c } ∷ []; end = e }) (map strict_line (title_line ∷ header_lines h) ++ map strict_line (lines_of_claim h.quiver 1 line c ++ end_line 1 e ∷ []))
 unfolding at header_at
 claim_read h line (claim.Basis words steps rules) e ok is block full = record {
   last = record { front = record { is_begun = true; header = h }; place = place.Ended; line = line; words = words; steps = steps; rules = rules; end = e };
   reads = Reads-append Step start (header_at record { is_begun = true; header = h })
-      (record { front = record { is_begun = true; header = h }; place = place.Ended; line = line; words = words; steps = steps; rules = rules; end = e }) (map strict_line (title_line ∷ header_lines h)) (map strict_line (claim_lines h.quiver 1 line (claim.Basis words steps rules) ++ end_line 1 e ∷ [])) (front_read h ok) (basis_read h ok line words steps rules e is block full);
+      (record { front = record { is_begun = true; header = h }; place = place.Ended; line = line; words = words; steps = steps; rules = rules; end = e }) (map strict_line (title_line ∷ header_lines h)) (map strict_line (lines_of_claim h.quiver 1 line (claim.Basis words steps rules) ++ end_line 1 e ∷ [])) (front_read h ok) (basis_read h ok line words steps rules e is block full);
   ends = refl;
   report = report_same h _ _ e (one_record (record { front = record { is_begun = true; header = h }; place = place.Ended; line = line; words = words; steps = steps; rules = rules; end = e }) is.from);
 }

@@ -7,20 +7,21 @@ use Rattle.header_text.proofs.FrontLemmas.{front_after}
 use Rattle.header_text.proofs.Uniqueness.{decimal_one}
 use Rattle.claim_types.specs.Limits.{path_limit}
 use Rattle.claim_types.specs.Lawful.{IsFullEnd}
-use Rattle.claim_text.specs.declared.part.First.{First}
-use Rattle.claim_text.specs.declared.part.First.TheVariants as first
+use Rattle.claim_lines.specs.declared.ends.First.{First}
+use Rattle.claim_lines.specs.declared.ends.First.TheVariants as first
 use Rattle.claim_text.specs.declared.part.Place.{Place}
 use Rattle.claim_text.specs.declared.part.Place.TheVariants as place
 use Rattle.claim_text.specs.declared.part.Part.{Part}
-use Rattle.claim_text.specs.Spelling.{title_line, words_line, word_line, step_line, rule_line, end_line}
-use Rattle.claim_text.specs.Items.{IsCount, FitsFirst, first_line, FitsWord, FitsStep, FitsRule}
+use Rattle.claim_lines.specs.Spelling.{title_line, words_line, word_line, step_line, rule_line, end_line}
+use Rattle.claim_lines.specs.Items.{IsCount, FitsFirst, first_line, FitsWord, FitsStep, FitsRule}
 use Rattle.claim_text.specs.Part.{with_title, with_first, with_word_count, with_word, with_step_count, with_step, with_rule_count, with_rule, with_end}
 use Rattle.claim_text.specs.Steps.{Takes, TokenStep, LexedStep, FrontStep, is_header_line, StepBy, Step}
-use Rattle.claim_text.proofs.Deciding.{Decided, both, below, at_most, same_tokens, IsListed, found, just, numbers_below}
-use Rattle.claim_text.proofs.DecidedHeader.{header_goes}
-use Rattle.claim_text.proofs.DecidedItems.{count_decided, first_decided, firsts_listed, word_decided, words_listed, step_decided, steps_listed, rule_decided, RuleIn, rules_listed, rule_in, end_decided, ends_listed}
-use Rattle.claim_text.proofs.EndReading.{one_first, one_end}
-use Rattle.claim_text.proofs.TakenLines.{takes, one_fitting_word, one_fitting_step, one_fitting_rule, few_relations}
+use Rattle.claim_lines.proofs.Deciding.{Decided, both, below, at_most, same_tokens, IsListed, found, just, numbers_below}
+use Rattle.claim_lines.proofs.DecidedHeader.{header_goes}
+use Rattle.claim_lines.proofs.DecidedItems.{count_decided, first_decided, firsts_listed, word_decided, words_listed, step_decided, steps_listed, rule_decided, RuleIn, rules_listed, rule_in, end_decided, ends_listed}
+use Rattle.claim_lines.proofs.EndReading.{one_first, one_end}
+use Rattle.claim_lines.proofs.FittingLines.{one_fitting_word, one_fitting_step, one_fitting_rule}
+use Rattle.claim_text.proofs.TakenLines.{takes, few_relations}
 
 -- a step to some part, or none
 abbrev pub Goes : (Part → Type 0) → Type 0

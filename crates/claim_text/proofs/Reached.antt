@@ -20,9 +20,10 @@ use Rattle.text_lines.proofs.Digits.{numeral-decimal}
 use Rattle.header_text.specs.Spelling.{header_lines}
 use Rattle.claim_types.specs.Limits.{IsLine, path_limit}
 use Rattle.claim_types.specs.Lawful.{AreWords, AreWrittenSteps, IsWrittenRule, IsBasisBlock}
-use Rattle.claim_text.specs.Spelling.{title_line, basis_line, words_line, word_line, steps_line, step_line, step_lines, rules_line, rule_line, block_lines}
-use Rattle.claim_text.specs.Items.{IsCount, counted, FitsWord, FitsStep, FitsRule}
-use Rattle.claim_text.proofs.WrittenLines.{step_lines-push}
+use Rattle.claim_lines.specs.Spelling.{title_line, basis_line, words_line, word_line, steps_line, step_line, rules_line, rule_line}
+use Rattle.claim_text.specs.Spelling.{step_lines, block_lines}
+use Rattle.claim_lines.specs.Items.{IsCount, counted, FitsWord, FitsStep, FitsRule}
+use Rattle.claim_text.proofs.WrittenBlocks.{step_lines-push}
 
 abbrev pub Lines : Type 0
 Lines = List (List (List ℕ))

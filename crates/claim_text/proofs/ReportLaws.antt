@@ -17,12 +17,12 @@ use Rattle.header_text.specs.Part.{start as header_start, IsStart, IsFront}
 use Rattle.header_text.proofs.FrontLemmas.{start_front}
 use Rattle.claim_text.specs.declared.part.Place.{Place}
 use Rattle.claim_text.specs.declared.part.Place.TheVariants as place
-use Rattle.claim_text.proofs.Deciding.{Decided}
+use Rattle.claim_lines.proofs.Deciding.{Decided}
 use Rattle.claim_text.proofs.DecidedLines.{Goes, line_goes, front_kept}
 use Rattle.header_text.specs.Spelling.{header_lines, text_of}
 use Rattle.header_text.proofs.Joining.{text_of-append}
 use Rattle.quiver_paths.specs.declared.Quiver.{Quiver}
-use Rattle.claim_text.proofs.WrittenLines.{report_text-pieces}
+use Rattle.claim_text.proofs.WrittenBlocks.{report_text-pieces}
 use Rattle.header_text.proofs.WholeLemmas.{lines_of_text, header_lacks, IsNamed-allowed}
 use Rattle.claim_types.specs.declared.claims.Claim.{Claim}
 use Rattle.claim_types.specs.declared.claims.Claim.TheVariants as claim
@@ -35,15 +35,16 @@ use Rattle.claim_types.specs.declared.reports.Report.{Report}
 use Rattle.claim_types.specs.Limits.{IsLine}
 use Rattle.claim_types.specs.Lawful.{AreWrittenSteps, IsBasisBlock, IsFirstClaim, AreRecords, IsEmptyEnd, IsEnd, IsReport}
 use Rattle.claim_text.specs.declared.part.Part.{Part}
-use Rattle.claim_text.specs.Spelling.{title_line, basis_line, words_line, word_line, steps_line, step_line, step_lines, rules_line, rule_line, block_lines, records_lines, record_lines, claim_lines, end_line, report_lines, report_text, front_text, record_text, records_text, end_text}
+use Rattle.claim_lines.specs.Spelling.{title_line, basis_line, words_line, word_line, steps_line, step_line, rules_line, rule_line, end_line}
+use Rattle.claim_text.specs.Spelling.{step_lines, block_lines, records_lines, record_lines, lines_of_claim, report_lines, report_text, front_text, record_text, records_text, end_text}
 use Rattle.claim_text.specs.Part.{report_of, start}
 use Rattle.claim_text.specs.Steps.{Step, MayEnd}
 use Rattle.claim_text.specs.Determined.{Step-determined}
 use Rattle.claim_text.specs.Texts.{IsTextOf, IsBadLine}
 use Rattle.claim_text.proofs.SoundReading.{read_is_report}
 use Rattle.claim_text.proofs.CompleteReading.{ReadsTo, empty_read, claim_read, fits_step}
-use Rattle.claim_text.proofs.Clear.{feed, title_clear, first_clear, words_clear, word_clear, steps_clear, step_clear, rules_clear, rule_clear, end_clear}
-use Rattle.claim_text.specs.declared.part.First.TheVariants as first
+use Rattle.claim_lines.proofs.Clear.{feed, title_clear, first_clear, words_clear, word_clear, steps_clear, step_clear, rules_clear, rule_clear, end_clear}
+use Rattle.claim_lines.specs.declared.ends.First.TheVariants as first
 
 -- the lines of a report are read
 report_reads : (h : Header) (rs : List Record) (e : End) → IsAllowed h → AreRecords h rs → IsEnd rs e → ReadsTo (record { header = h; records = rs; end = e }) (map strict_line (report_lines (record { header = h; records = rs; end = e })))
@@ -51,7 +52,7 @@ report_reads h [] e ok are is =
     subst (ReadsTo (record { header = h; records = []; end = e })) (sym (map-append strict_line (title_line ∷ header_lines h) (end_line 0 e ∷ []))) (empty_read h e ok is)
 report_reads h (r ∷ rest) e ok are is =
     let Q = h.quiver in
-    let claims = claim_lines Q 1 r.line r.claim in
+    let claims = lines_of_claim Q 1 r.line r.claim in
     let one : ReadsTo (record { header = h; records = r ∷ []; end = e }) (map strict_line (report_lines (record { header = h; records = r ∷ []; end = e }))) =
     subst (ReadsTo (record { header = h; records = r ∷ []; end = e }))
     (sym (ap (λ l. map strict_line (title_line ∷ (header_lines h ++ (l ++ end_line 1 e ∷ [])))) (append-nil claims) ∙ map-append strict_line (title_line ∷ header_lines h) (claims ++ end_line 1 e ∷ [])))
@@ -90,7 +91,7 @@ block_lacks h words steps rules ok b =
     (All-cons (All (Lacks 10)) r rs (rules_clear 10 feed (length rules) (number (length rules) b.are_rules.few)).lacks
     (All-map (All (Lacks 10)) (rule_line Q) rules (λ k d l. (rule_clear 10 feed h named (length steps) b.are_steps.few (get_or rules k d) (b.are_rules.each k d l)).lacks))))))
 
-claim_lacks : (h : Header) (line : ℕ) (c : Claim) → IsAllowed h → IsLine line → IsFirstClaim h c → All (All (Lacks 10)) (claim_lines h.quiver 1 line c)
+claim_lacks : (h : Header) (line : ℕ) (c : Claim) → IsAllowed h → IsLine line → IsFirstClaim h c → All (All (Lacks 10)) (lines_of_claim h.quiver 1 line c)
 claim_lacks h line (claim.Basis words steps rules) ok is block =
     All-cons (All (Lacks 10)) (basis_line 1 line) (block_lines h.quiver words steps rules) (first_clear 10 feed (first.Basis line) is).lacks (block_lacks h words steps rules ok block)
 
@@ -105,7 +106,7 @@ only_line l lacks = All-cons (All (Lacks 10)) l [] lacks (All-nil (All (Lacks 10
 records_lack : (h : Header) (rs : List Record) (e : End) → IsAllowed h → AreRecords h rs → IsEnd rs e → All (All (Lacks 10)) (records_lines h.quiver 1 rs ++ end_line (length rs) e ∷ [])
 records_lack h [] e ok are is = only_line (end_line 0 e) (empty_end_lacks e is)
 records_lack h (r ∷ rest) e ok are is =
-    let claims = claim_lines h.quiver 1 r.line r.claim in
+    let claims = lines_of_claim h.quiver 1 r.line r.claim in
     let one : All (All (Lacks 10)) (records_lines h.quiver 1 (r ∷ []) ++ end_line 1 e ∷ []) =
     subst (λ l. All (All (Lacks 10)) (l ++ end_line 1 e ∷ [])) (sym (append-nil claims))
     (All-append (All (Lacks 10)) claims (end_line 1 e ∷ []) (claim_lacks h r.line r.claim ok are.0.line are.0.claim) (only_line (end_line 1 e) (end_clear 10 feed e is).lacks)) in

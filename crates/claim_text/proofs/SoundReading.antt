@@ -27,13 +27,14 @@ use Rattle.claim_types.specs.declared.reports.End.{End}
 use Rattle.claim_types.specs.declared.reports.End.TheVariants.{Refused}
 use Rattle.claim_types.specs.Limits.{IsLine}
 use Rattle.claim_types.specs.Lawful.{AreWords, AreWrittenSteps, AreWrittenRules, IsWrittenRule, AreRecords, IsEnd, IsFullEnd, IsReport}
-use Rattle.claim_text.specs.declared.part.First.{First}
-use Rattle.claim_text.specs.declared.part.First.TheVariants as first
+use Rattle.claim_lines.specs.declared.ends.First.{First}
+use Rattle.claim_lines.specs.declared.ends.First.TheVariants as first
 use Rattle.claim_text.specs.declared.part.Place.{Place}
 use Rattle.claim_text.specs.declared.part.Place.TheVariants as place
 use Rattle.claim_text.specs.declared.part.Part.{Part}
-use Rattle.claim_text.specs.Spelling.{title_line, basis_line, words_line, steps_line, rules_line, records_lines, end_line, report_lines}
-use Rattle.claim_text.specs.Items.{counted, FitsFirst, first_line}
+use Rattle.claim_lines.specs.Spelling.{title_line, basis_line, words_line, steps_line, rules_line, end_line}
+use Rattle.claim_text.specs.Spelling.{records_lines, report_lines}
+use Rattle.claim_lines.specs.Items.{counted, FitsFirst, first_line}
 use Rattle.claim_text.specs.Part.{words_place, steps_place, rules_place, with_title, with_first, with_word_count, with_word, with_step_count, with_step, with_rule_count, with_rule, with_end, records_of, report_of, start}
 use Rattle.claim_text.specs.Steps.{TokenStep, LexedStep, FrontStep, is_header_line, StepBy, Step as ReportStep, MayEnd}
 use Rattle.claim_text.specs.Texts.{IsTextOf}

@@ -1,24 +1,22 @@
 -- One line more: what the readers of a line give.
-use Rattle.std.proofs.Common.{◌≡◌, ℕ, ◌+◌, ◌<◌, ◌≤◌, ◌^◌, List, [], ◌∷◌, ◌++◌, length, codes, decimal, Some, None, refl, sym, ap, ◌∙◌, subst, arith, lit<}
+use Rattle.std.proofs.Common.{◌≡◌, ℕ, ◌+◌, ◌<◌, ◌≤◌, ◌^◌, List, [], ◌∷◌, ◌++◌, length, codes, decimal, Some, None, sym, ap, ◌∙◌, subst, arith, lit<}
 use Rattle.quiver_paths.specs.declared.Path.{Path}
+use Rattle.quiver_paths.proofs.ListLemmas.{length-pushed}
 use Rattle.path_algebra.specs.declared.Header.{Header}
 use Rattle.path_algebra.specs.declared.rules.Rule.{Rule}
 use Rattle.path_algebra.specs.declared.rules.Step.{Step}
-use Rattle.header_text.specs.Named.{IsNamed}
 use Rattle.header_text.specs.Part.{Part as HeaderPart, IsFront}
+use Rattle.header_text.specs.Reading.{Reads}
 use Rattle.header_text.proofs.Uniqueness.{decimal_one}
 use Rattle.claim_types.specs.Limits.{path_limit}
-use Rattle.claim_text.specs.Spelling.{words_line, word_line, step_line, rule_line}
-use Rattle.claim_text.specs.Items.{IsCount, FitsWord, FitsStep, FitsRule}
-use Rattle.claim_text.specs.Reading.{IsCountOf, rule_form}
-use Rattle.claim_text.proofs.PathReading.{one_any_path}
-use Rattle.claim_text.proofs.StepReading.{one_step}
-use Rattle.claim_text.proofs.RuleReading.{one_rule_form, form_of_rule, rule_behind, rule_spelled}
-use Rattle.header_text.specs.Reading.{Reads}
-use Rattle.quiver_paths.proofs.ListLemmas.{length-pushed}
+use Rattle.claim_lines.specs.Spelling.{words_line, word_line, step_line, rule_line}
+use Rattle.claim_lines.specs.Items.{IsCount, FitsWord, FitsStep, FitsRule}
+use Rattle.claim_lines.specs.Reading.{IsCountOf}
+use Rattle.claim_lines.proofs.EndReading.{head_is, tail_is}
+use Rattle.claim_lines.proofs.FittingLines.{one_fitting_word, one_fitting_step, one_fitting_rule}
 use Rattle.claim_text.specs.declared.part.Place.{Place}
-use Rattle.claim_text.specs.Part.{words_place, steps_place, rules_place, with_word_count, with_word, with_step, with_rule}
 use Rattle.claim_text.specs.declared.part.Part.{Part}
+use Rattle.claim_text.specs.Part.{words_place, steps_place, rules_place, with_word_count, with_word, with_step, with_rule}
 use Rattle.claim_text.specs.Steps.{Takes}
 
 -- what was read leads to what is read with it
@@ -30,9 +28,6 @@ takes Fits spell taken tokens x next reads one leads = record { item = x; fits =
 pub takes_none : {X : Type 0} (Fits : X → Type 0) (spell : X → List (List ℕ)) (taken : X → Part) (tokens : List (List ℕ)) → Reads Fits spell tokens None → (next : Part) → Takes Fits spell taken tokens next → ⊥
 takes_none Fits spell taken tokens none next t = none t.item t.fits t.spelled
 
-pub tail_same : (a b : List ℕ) (xs ys : List (List ℕ)) → a ∷ xs ≡ b ∷ ys → xs ≡ ys
-tail_same a b xs ys e = cc
-
 -- a count behind its word
 pub takes_count : (word : List ℕ) (taken : List ℕ → Part) (tokens rest : List (List ℕ)) (n : ℕ) (next : Part) → tokens ≡ word ∷ rest → (is : IsCountOf rest n) → next ≡ taken is.numeral
     → Takes IsCount (λ numeral. word ∷ numeral ∷ []) taken tokens next
@@ -40,7 +35,7 @@ takes_count word taken tokens rest n next e is leads = record {
   item = is.numeral;
   fits = is.is;
   spelled = e ∙ ap (λ r. word ∷ r) is.spelled;
-  only = λ other fits same. one_numeral (tail_same _ _ _ _ (sym same ∙ (e ∙ ap (λ r. word ∷ r) is.spelled)));
+  only = λ other fits same. one_numeral (tail_is _ _ _ _ (sym same ∙ (e ∙ ap (λ r. word ∷ r) is.spelled)));
   leads = leads;
 }
   where
@@ -49,7 +44,7 @@ takes_count word taken tokens rest n next e is leads = record {
 
 pub no_count : (word : List ℕ) (taken : List ℕ → Part) (tokens rest : List (List ℕ)) → tokens ≡ word ∷ rest → ((numeral : List ℕ) → IsCount numeral → rest ≡ numeral ∷ [] → ⊥)
     → (next : Part) → Takes IsCount (λ numeral. word ∷ numeral ∷ []) taken tokens next → ⊥
-no_count word taken tokens rest e none next t = none t.item t.fits (tail_same _ _ _ _ (sym e ∙ t.spelled))
+no_count word taken tokens rest e none next t = none t.item t.fits (tail_is _ _ _ _ (sym e ∙ t.spelled))
 
 pub no_count_word : (word : List ℕ) (taken : List ℕ → Part) (tokens : List (List ℕ)) → ((rest : List (List ℕ)) → tokens ≡ word ∷ rest → ⊥)
     → (next : Part) → Takes IsCount (λ numeral. word ∷ numeral ∷ []) taken tokens next → ⊥
@@ -64,34 +59,15 @@ takes_number taken tokens rest n next e small spelled leads = record {
   spelled = e ∙ ap (λ r. codes "words" ∷ r) spelled;
   only = λ k fits same.
       let big : 4096 < 2 ^ 64 = lit< tt in
-      decimal_one k n (omega arith) (omega arith) (head_same _ _ _ _ (tail_same _ _ _ _ (sym same ∙ (e ∙ ap (λ r. codes "words" ∷ r) spelled))));
+      decimal_one k n (omega arith) (omega arith) (head_is _ _ _ _ (tail_is _ _ _ _ (sym same ∙ (e ∙ ap (λ r. codes "words" ∷ r) spelled))));
   leads = leads;
 }
-  where
-    head_same : (a b : List ℕ) (xs ys : List (List ℕ)) → a ∷ xs ≡ b ∷ ys → a ≡ b
-    head_same a b xs ys e = cc
 
 pub no_number : (taken : ℕ → Part) (tokens rest : List (List ℕ)) → tokens ≡ codes "words" ∷ rest → ((n : ℕ) → n ≤ path_limit → rest ≡ decimal n ∷ [] → ⊥)
     → (next : Part) → Takes (λ k. k ≤ path_limit) (λ k. words_line (decimal k)) taken tokens next → ⊥
-no_number taken tokens rest e none next t = none t.item t.fits (tail_same _ _ _ _ (sym e ∙ t.spelled))
+no_number taken tokens rest e none next t = none t.item t.fits (tail_is _ _ _ _ (sym e ∙ t.spelled))
 
--- ---- one thing of one spelling
-
-word_same : (a b c : List ℕ) → a ∷ b ∷ [] ≡ a ∷ c ∷ [] → b ≡ c
-word_same a b c e = cc
-
-pub one_fitting_word : (h : Header) → IsNamed h.quiver → (words : List Path) (v w : Path) → FitsWord h words v → FitsWord h words w → word_line h.quiver v ≡ word_line h.quiver w → v ≡ w
-one_fitting_word h named words v w a b e = one_any_path h.quiver named v w a.short.path b.short.path (word_same _ _ _ e)
-
-pub one_fitting_step : (h : Header) → IsNamed h.quiver → length h.relations < 2 ^ 32 → (earlier k : ℕ) (s t : Step) → FitsStep h earlier s → FitsStep h earlier t → step_line h.quiver k s ≡ step_line h.quiver k t → s ≡ t
-one_fitting_step h named few earlier k s t a b e =
-    one_step h earlier named few (let room = a.room in omega arith) s t (a.named, a.factor) (b.named, b.factor) (tail_same _ _ _ _ (tail_same _ _ _ _ e))
-
-pub one_fitting_rule : (h : Header) → IsNamed h.quiver → (steps earlier : ℕ) (r s : Rule) → FitsRule h steps earlier r → FitsRule h steps earlier s → rule_line h.quiver r ≡ rule_line h.quiver s → r ≡ s
-one_fitting_rule h named steps earlier r s a b e =
-    one_rule_form h named steps a.few r s (form_of_rule h steps r a.written) (form_of_rule h steps s b.written)
-    (rule_behind h.quiver s (rule_line h.quiver r) (rule_form h.quiver r) (sym (rule_spelled h.quiver r (codes "rule" ∷ rule_form h.quiver r) (rule_form h.quiver r) refl refl)) e)
-
+-- a header has few relations
 pub few_relations : (f : HeaderPart) → IsFront f → length f.header.relations < 2 ^ 32
 few_relations f front = let few = front.few_relations in let big : 256 < 2 ^ 32 = lit< tt in omega arith
 

@@ -1,6 +1,4 @@
 pub mod Spelling
-pub mod Items
-pub mod Reading
 pub mod Part
 pub mod Steps
 pub mod Texts

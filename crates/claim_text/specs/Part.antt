@@ -10,12 +10,12 @@ use Rattle.claim_types.specs.declared.reports.Why.TheVariants.{PathLimit}
 use Rattle.claim_types.specs.declared.reports.End.{End}
 use Rattle.claim_types.specs.declared.reports.End.TheVariants.{Done, Refused}
 use Rattle.claim_types.specs.declared.reports.Report.{Report}
-use Rattle.claim_text.specs.declared.part.First.{First}
-use Rattle.claim_text.specs.declared.part.First.TheVariants as first
+use Rattle.claim_lines.specs.declared.ends.First.{First}
+use Rattle.claim_lines.specs.declared.ends.First.TheVariants as first
 use Rattle.claim_text.specs.declared.part.Place.{Place}
 use Rattle.claim_text.specs.declared.part.Place.TheVariants as place
 use Rattle.claim_text.specs.declared.part.Part.{Part}
-use Rattle.claim_text.specs.Items.{counted}
+use Rattle.claim_lines.specs.Items.{counted}
 
 -- where a report stands behind k of n words, of n steps and of n rules
 abbrev pub words_place : ℕ → ℕ → Place

@@ -9,8 +9,8 @@ use Rattle.claim_types.specs.Lawful.{IsFullEnd}
 use Rattle.claim_text.specs.declared.part.Place.{Place}
 use Rattle.claim_text.specs.declared.part.Place.TheVariants as place
 use Rattle.claim_text.specs.declared.part.Part.{Part}
-use Rattle.claim_text.specs.Spelling.{title_line, words_line, word_line, steps_line, step_line, rules_line, rule_line, end_line}
-use Rattle.claim_text.specs.Items.{IsCount, FitsFirst, first_line, FitsWord, FitsStep, FitsRule}
+use Rattle.claim_lines.specs.Spelling.{title_line, words_line, word_line, steps_line, step_line, rules_line, rule_line, end_line}
+use Rattle.claim_lines.specs.Items.{IsCount, FitsFirst, first_line, FitsWord, FitsStep, FitsRule}
 use Rattle.claim_text.specs.Part.{with_title, with_first, with_word_count, with_word, with_step_count, with_step, with_rule_count, with_rule, with_end}
 
 -- The tokens spell one of the things that may follow, and lead to what is read with it. (They spell no other.)

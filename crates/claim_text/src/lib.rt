@@ -1,14 +1,9 @@
 //! Reports as texts: their one spelling, writing it, and reading it.
 #![tactic(auto)]
 
-mod counts;
-mod ends;
 pub mod laws;
 mod part;
-mod paths;
 mod reader;
-mod rules;
-mod steps;
 mod taking;
 mod writing;
 

@@ -22,13 +22,6 @@ pub enum Place {
     Ended,
 }
 
-/// What the first line behind the header says: the claim of a basis, or the refusal of too many paths.
-#[derive(Clone, Copy, Drop)]
-pub enum First {
-    Basis { line: u32 },
-    Limit { line: u32, count: u64 },
-}
-
 /// What has been read of a report. The line is that of the claim, and 0 before it is read.
 #[derive(Drop)]
 pub struct Part {

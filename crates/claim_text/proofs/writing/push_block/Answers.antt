@@ -1,5 +1,6 @@
 use Rattle.std.proofs.Common.{◌++◌, ap, sym, ◌∙◌}
-use Rattle.claim_text.proofs.WrittenLines.{then, block_text-pieces}
+use Rattle.claim_lines.proofs.WrittenLines.{then}
+use Rattle.claim_text.proofs.WrittenBlocks.{block_text-pieces}
 use Rattle.claim_text.proofs.writing.push_block.Goals as goal
 
 pub returns : goal.returns

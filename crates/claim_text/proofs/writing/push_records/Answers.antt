@@ -1,7 +1,7 @@
 use Rattle.std.proofs.Common.{◌++◌, ◌+◌, ◌<◌, length, ap, ◌∙◌, arith}
 use Rattle.header_text.proofs.Joining.{line_step}
 use Rattle.claim_text.specs.Spelling.{record_text}
-use Rattle.claim_text.proofs.WrittenLines.{records_take}
+use Rattle.claim_text.proofs.WrittenBlocks.{records_take}
 use Rattle.claim_text.proofs.writing.push_records.Goals as goal
 
 pub loop-i-preserved : goal.loop-i-preserved

@@ -1,6 +1,6 @@
 use Rattle.std.proofs.Common.{◌++◌, ◌<◌, length, ap, ◌∙◌, arith}
 use Rattle.header_text.proofs.Joining.{text_take, line_step}
-use Rattle.claim_text.specs.Spelling.{rule_line}
+use Rattle.claim_lines.specs.Spelling.{rule_line}
 use Rattle.text_lines.specs.Strict.{strict_line}
 use Rattle.claim_text.proofs.writing.push_rules.Goals as goal
 

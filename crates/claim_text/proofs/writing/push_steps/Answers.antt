@@ -1,6 +1,6 @@
 use Rattle.std.proofs.Common.{◌<◌, length, arith}
 use Rattle.header_text.proofs.Joining.{line_step}
-use Rattle.claim_text.proofs.WrittenLines.{steps_take}
+use Rattle.claim_text.proofs.WrittenBlocks.{steps_take}
 use Rattle.claim_text.proofs.writing.push_steps.Goals as goal
 
 pub loop-i-preserved : goal.loop-i-preserved

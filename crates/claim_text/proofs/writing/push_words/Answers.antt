@@ -1,6 +1,6 @@
 use Rattle.std.proofs.Common.{◌++◌, ◌<◌, length, ap, ◌∙◌, arith}
 use Rattle.header_text.proofs.Joining.{text_take, line_step}
-use Rattle.claim_text.specs.Spelling.{word_line}
+use Rattle.claim_lines.specs.Spelling.{word_line}
 use Rattle.text_lines.specs.Strict.{strict_line}
 use Rattle.claim_text.proofs.writing.push_words.Goals as goal
 

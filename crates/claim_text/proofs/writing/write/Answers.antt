@@ -1,8 +1,10 @@
 use Rattle.std.proofs.Common.{◌++◌, [], ap, sym, ◌∙◌}
 use Rattle.text_lines.specs.Strict.{strict_line}
 use Rattle.header_text.specs.Spelling.{text_of}
-use Rattle.claim_text.specs.Spelling.{records_lines, end_line, front_text}
-use Rattle.claim_text.proofs.WrittenLines.{then, report_text-pieces}
+use Rattle.claim_lines.specs.Spelling.{end_line}
+use Rattle.claim_text.specs.Spelling.{records_lines, front_text}
+use Rattle.claim_lines.proofs.WrittenLines.{then}
+use Rattle.claim_text.proofs.WrittenBlocks.{report_text-pieces}
 use Rattle.claim_text.proofs.writing.write.Goals as goal
 
 pub returns : goal.returns

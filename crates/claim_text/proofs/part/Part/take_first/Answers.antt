@@ -1,7 +1,7 @@
 use Rattle.std.proofs.Common.{refl}
-use Rattle.claim_text.specs.Items.{FitsFirst, first_line}
+use Rattle.claim_lines.specs.Items.{FitsFirst, first_line}
 use Rattle.claim_text.specs.Part.{with_first}
-use Rattle.claim_text.proofs.EndReading.{one_first}
+use Rattle.claim_lines.proofs.EndReading.{one_first}
 use Rattle.claim_text.proofs.TakenLines.{takes}
 use Rattle.claim_text.proofs.part.Part.take_first.Goals as goal
 

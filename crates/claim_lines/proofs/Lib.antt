@@ -1,0 +1,11 @@
+pub mod WrittenLines
+pub mod PathReading
+pub mod StepReading
+pub mod RuleReading
+pub mod EndReading
+pub mod FittingLines
+pub mod Clear
+pub mod Deciding
+pub mod DecidedPaths
+pub mod DecidedHeader
+pub mod DecidedItems
