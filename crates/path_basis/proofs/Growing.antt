@@ -12,17 +12,18 @@ use Rattle.path_algebra.specs.declared.rules.Step.{Step}
 use Rattle.path_algebra.specs.Elements.{sum_of_terms}
 use Rattle.path_algebra.specs.Rules.{rule_element}
 use Rattle.path_algebra.proofs.ElementLemmas.{sum_of_terms-below}
-use Rattle.path_basis.specs.Reducing.{beside}
-use Rattle.path_basis.specs.Gaps.{IsTidy}
-use Rattle.path_basis.specs.Derived.{IsDerivation, Derives, Lengthens, AreDerived}
-use Rattle.path_basis.specs.Inserting.{IsNewTo, Inserts}
+use Rattle.path_reduction.specs.Reducing.{beside}
+use Rattle.path_reduction.specs.Gaps.{IsTidy}
+use Rattle.path_reduction.specs.Derived.{IsDerivation, Derives, Lengthens, AreDerived}
+use Rattle.path_reduction.specs.NewRules.{IsNewTo}
+use Rattle.path_basis.specs.Inserting.{Inserts}
 use Rattle.path_basis.specs.Measure.{free_count}
 use Rattle.quiver_paths.specs.PathOrder.{IsSmaller}
 use Rattle.quiver_paths.specs.PathList.{path_count}
 use Rattle.quiver_paths.proofs.ListLemmas.{AllPairs-nil, Contains-nil}
 use Rattle.path_basis.proofs.Measure.{free_count-le}
 use Rattle.path_basis.specs.Completing.{IsCompletion, HasGrown}
-use Rattle.path_basis.proofs.Deriving.{still_derived, derives_same, Lengthens-trans}
+use Rattle.path_reduction.proofs.Deriving.{still_derived, derives_same, Lengthens-trans}
 
 all_members : {X : Type 0} (P : X → Type 0) (xs : List X) → ((x : X) → Contains xs x → P x) → All P xs
 all_members P xs m = All-weaker (Contains xs) P m xs (All-contains_itself xs)

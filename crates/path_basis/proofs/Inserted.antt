@@ -15,9 +15,10 @@ use Rattle.path_algebra.specs.declared.Header.{Header}
 use Rattle.path_algebra.specs.declared.rules.Rule.{Rule}
 use Rattle.path_algebra.specs.Allowed.{IsAllowed}
 use Rattle.path_algebra.specs.Reduction.{HasNoTip}
-use Rattle.path_basis.specs.Gaps.{IsTidy, AreTidy}
+use Rattle.path_reduction.specs.Gaps.{IsTidy, AreTidy}
 use Rattle.path_basis.specs.Measure.{free_count}
-use Rattle.path_basis.specs.Inserting.{IsNewTo, IsReplaced, has_run, lacks_run, IsPlaceOf, IsInserted, Inserts}
+use Rattle.path_reduction.specs.NewRules.{IsNewTo}
+use Rattle.path_basis.specs.Inserting.{IsReplaced, has_run, lacks_run, IsPlaceOf, IsInserted, Inserts}
 use Rattle.path_basis.proofs.Runs.{test_from_runs, factor_from_run, run_from_factor}
 use Rattle.path_basis.proofs.Measure.{has_tip_from_member, test_from_no_tip, free_count-lt}
 

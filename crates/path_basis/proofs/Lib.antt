@@ -1,16 +1,6 @@
 pub mod NoGap
-pub mod Extended
-pub mod Sides
-pub mod TermSums
-pub mod TipStands
-pub mod Deriving
-pub mod Rewriting
-pub mod Closing
-pub mod Scaled
-pub mod RuleElements
 pub mod Settling
 pub mod Overlaps
-pub mod NewRules
 pub mod Growing
 pub mod Runs
 pub mod Measure

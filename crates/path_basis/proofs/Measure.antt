@@ -17,9 +17,9 @@ use Rattle.path_algebra.specs.declared.Header.{Header}
 use Rattle.path_algebra.specs.declared.rules.Rule.{Rule}
 use Rattle.path_algebra.specs.Allowed.{IsAllowed}
 use Rattle.path_algebra.specs.Reduction.{HasNoTip}
-use Rattle.path_basis.specs.Gaps.{IsTidy, AreTidy}
+use Rattle.path_reduction.specs.Gaps.{IsTidy, AreTidy}
 use Rattle.path_basis.specs.Measure.{runs_in, has_tip_in, free_count}
-use Rattle.path_basis.proofs.Rewriting.{count_by-lt}
+use Rattle.path_reduction.proofs.Rewriting.{count_by-lt}
 use Rattle.path_basis.proofs.Runs.{runs_in-trans, factor_from_run, run_from_factor}
 
 -- ---- tests of lists

@@ -32,7 +32,7 @@ use Rattle.path_algebra.proofs.Occurrences.{cases_occurrence}
 use Rattle.path_algebra.proofs.Reducing.{AreRules, by_reduction, becomes_below, rewritten_smaller}
 use Rattle.path_algebra.proofs.IdealActs.{parallel_terms}
 use Rattle.path_algebra.proofs.ClausesSuffice.{rules_are_reduced}
-use Rattle.path_basis.specs.Gaps.{IsTidy, AreTidy, HasNoGap, reduced_terms}
+use Rattle.path_reduction.specs.Gaps.{IsTidy, AreTidy, HasNoGap, reduced_terms}
 
 -- a linear function goes into a sum between two paths
 linear-between : (h : Header) (L : (Path → ℕ) → Path → ℕ) → IsLinear h.field L → (f : Path → Path → ℕ) (u : Path) (terms : List Term) (v r : Path)

@@ -26,7 +26,7 @@ use Rattle.path_algebra.proofs.IdealActs.{IsInIdeal-long}
 use Rattle.path_algebra.proofs.NormalFactors.{tip_between, cases_normal, minimal_factor}
 use Rattle.path_algebra.proofs.TipFactors.{found_tip, factor_found, no_tip_if}
 use Rattle.path_algebra.proofs.ClausesNecessary.{meets_clauses}
-use Rattle.path_basis.specs.Derived.{IsDerivation, Derives, AreDerived}
+use Rattle.path_reduction.specs.Derived.{IsDerivation, Derives, AreDerived}
 use Rattle.path_basis.specs.Sifting.{AreSifted}
 
 all_members : {X : Type 0} (P : X → Type 0) (xs : List X) → ((x : X) → Contains xs x → P x) → All P xs

@@ -25,18 +25,18 @@ use Rattle.path_algebra.proofs.SumsOver.{linear-same}
 use Rattle.path_algebra.proofs.ElementLemmas.{sum_of_terms-below}
 use Rattle.path_algebra.proofs.IdealLemmas.{IsInIdeal-same}
 use Rattle.path_algebra.proofs.IdealSteps.{steps_are_members}
-use Rattle.path_basis.specs.Gaps.{IsTidy, AreTidy, HasNoGap, reduced_terms}
-use Rattle.path_basis.specs.Derived.{Derives, Lengthens, AreDerived}
-use Rattle.path_basis.specs.Reducing.{AreReducedTo, beside}
+use Rattle.path_reduction.specs.Gaps.{IsTidy, AreTidy, HasNoGap, reduced_terms}
+use Rattle.path_reduction.specs.Derived.{Derives, Lengthens, AreDerived}
+use Rattle.path_reduction.specs.Reducing.{AreReducedTo, beside}
 use Rattle.path_basis.specs.Tails.{IsTailReduced, AreTailsReduced}
 use Rattle.path_basis.specs.Completing.{IsClosed}
-use Rattle.path_basis.proofs.TermSums.{term_nonzero}
-use Rattle.path_basis.proofs.Deriving.{derives_same, still_derived}
-use Rattle.path_basis.proofs.Extended.{tidy_rules, extended, extended-linear, extended-terms}
-use Rattle.path_basis.proofs.Rewriting.{stays, reduced_below}
-use Rattle.path_basis.proofs.RuleElements.{minus}
-use Rattle.path_basis.proofs.Scaled.{sum_scaled}
-use Rattle.path_basis.proofs.NewRules.{negatives_scaled, AreElementTerms-negated, from_negatives}
+use Rattle.path_reduction.proofs.TermSums.{term_nonzero}
+use Rattle.path_reduction.proofs.Deriving.{derives_same, still_derived}
+use Rattle.path_reduction.proofs.Extended.{tidy_rules, extended, extended-linear, extended-terms}
+use Rattle.path_reduction.proofs.Rewriting.{stays, reduced_below}
+use Rattle.path_reduction.proofs.RuleElements.{minus}
+use Rattle.path_reduction.proofs.Scaled.{sum_scaled}
+use Rattle.path_reduction.proofs.NewRules.{negatives_scaled, AreElementTerms-negated, from_negatives}
 use Rattle.path_basis.proofs.Settling.{IsWithin, tidy_reduction, reduced_within, paths_of}
 use Rattle.path_basis.proofs.NoGap.{acts_between, between_reduced, no_gap_reduced}
 

@@ -11,7 +11,7 @@ use Rattle.quiver_paths.proofs.PathLemmas.{IsFactor-from_arrows, IsFactor-arrows
 use Rattle.path_algebra.specs.declared.Header.{Header}
 use Rattle.path_algebra.specs.declared.rules.Rule.{Rule}
 use Rattle.path_algebra.specs.Allowed.{IsAllowed}
-use Rattle.path_basis.specs.Gaps.{IsTidy}
+use Rattle.path_reduction.specs.Gaps.{IsTidy}
 use Rattle.path_basis.specs.Measure.{runs_in}
 
 -- ---- runs of arrows

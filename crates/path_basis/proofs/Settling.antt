@@ -34,19 +34,20 @@ use Rattle.path_algebra.proofs.Reducing.{AreRules, by_reduction, rewritten_small
 use Rattle.path_algebra.proofs.ReductionExists.{HasReduction, reduction_exists}
 use Rattle.path_algebra.proofs.ClausesSuffice.{term_at}
 use Rattle.path_algebra.proofs.TermLists.{sum_of_terms-nil}
-use Rattle.path_basis.specs.Gaps.{IsTidy, AreTidy, reduced_terms}
-use Rattle.path_basis.specs.Occurrences.{StandsAt, part_before, part_behind}
-use Rattle.path_basis.specs.Derived.{IsDerivation, Derives, rule_between}
-use Rattle.path_basis.specs.Reducing.{AreReducedTo}
-use Rattle.path_basis.specs.FirstGaps.{ForReductions, ClosesAt, IsGap, IsFirstGap}
-use Rattle.path_basis.specs.declared.gaps.Gap.{Gap}
+use Rattle.path_reduction.specs.Gaps.{IsTidy, AreTidy, reduced_terms}
+use Rattle.path_reduction.specs.Occurrences.{StandsAt, part_before, part_behind}
+use Rattle.path_reduction.specs.Derived.{IsDerivation, Derives, rule_between}
+use Rattle.path_reduction.specs.Reducing.{AreReducedTo}
+use Rattle.path_reduction.specs.FirstGaps.{ForReductions, ClosesAt, IsGap, IsFirstGap}
+use Rattle.path_reduction.specs.declared.gaps.Gap.{Gap}
 use Rattle.path_basis.specs.Measure.{free_count}
-use Rattle.path_basis.specs.Completing.{AreParallel, RelationReduces, HasGrown}
-use Rattle.path_basis.proofs.TermSums.{term_nonzero}
-use Rattle.path_basis.proofs.TipStands.{IsPartedAt, parted}
-use Rattle.path_basis.proofs.Deriving.{derives_same, derives_push}
-use Rattle.path_basis.proofs.Extended.{tidy_rules, extended, extended-linear, extended-path, extended-terms, extended-between}
-use Rattle.path_basis.proofs.RuleElements.{minus}
+use Rattle.path_reduction.specs.NewRules.{AreParallel}
+use Rattle.path_basis.specs.Completing.{RelationReduces, HasGrown}
+use Rattle.path_reduction.proofs.TermSums.{term_nonzero}
+use Rattle.path_reduction.proofs.TipStands.{IsPartedAt, parted}
+use Rattle.path_reduction.proofs.Deriving.{derives_same, derives_push}
+use Rattle.path_reduction.proofs.Extended.{tidy_rules, extended, extended-linear, extended-path, extended-terms, extended-between}
+use Rattle.path_reduction.proofs.RuleElements.{minus}
 
 -- ---- paths of what an element becomes
 

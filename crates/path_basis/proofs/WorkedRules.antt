@@ -19,7 +19,7 @@ use Rattle.path_algebra.specs.declared.rules.Rule.{Rule}
 use Rattle.path_algebra.specs.Allowed.{IsAllowed, IsArrowName, IsRelation, IsTerm, IsParallel}
 use Rattle.path_algebra.specs.Rules.{AreElementTerms}
 use Rattle.path_algebra.proofs.TermLists.{Contains-one, AreElementTerms-nil, AreElementTerms-one}
-use Rattle.path_basis.specs.Gaps.{IsTidy, AreTidy}
+use Rattle.path_reduction.specs.Gaps.{IsTidy, AreTidy}
 use Rattle.path_basis.specs.Worked.{along, loop_arrow, term, one_loop, two_loops, rules_of, IsOneLoop, IsTwoLoops}
 
 one : {X : Type 0} (P : X → Type 0) (x : X) → P x → All P (x ∷ [])

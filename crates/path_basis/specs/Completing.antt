@@ -2,16 +2,14 @@
 use Rattle.std.specs.Prelude.{◌≡◌, ◌<◌, ◌≤◌, ◌+◌, ◌*◌, List, length, Contains, All}
 use Rattle.quiver_paths.specs.declared.Path.{Path}
 use Rattle.quiver_paths.specs.Path.{IsPath, path_length}
-use Rattle.path_algebra.specs.declared.Term.{Term}
 use Rattle.path_algebra.specs.declared.Relation.{Relation}
 use Rattle.path_algebra.specs.declared.Header.{Header}
 use Rattle.path_algebra.specs.declared.rules.Rule.{Rule}
 use Rattle.path_algebra.specs.declared.rules.Step.{Step}
-use Rattle.path_algebra.specs.Allowed.{IsParallel}
 use Rattle.path_basis.specs.declared.places.Place.{Place}
-use Rattle.path_basis.specs.Gaps.{IsTidy, AreTidy, HasNoGap, reduced_terms}
-use Rattle.path_basis.specs.Derived.{IsDerivation, AreDerived}
-use Rattle.path_basis.specs.FirstGaps.{ForReductions}
+use Rattle.path_reduction.specs.Gaps.{IsTidy, AreTidy, HasNoGap, reduced_terms}
+use Rattle.path_reduction.specs.Derived.{IsDerivation, AreDerived}
+use Rattle.path_reduction.specs.FirstGaps.{ForReductions}
 use Rattle.path_basis.specs.Measure.{free_count}
 
 -- a path of at most the bound's length, and a number of its arrows
@@ -19,10 +17,6 @@ pub record IsPlace (h : Header) (place : Place) : Type 0 where
   pub path : IsPath h.quiver place.path
   pub short : path_length place.path ≤ h.bound
   pub inside : place.end ≤ path_length place.path
-
--- the paths of the terms start and end at the same vertices
-pub record AreParallel (terms : List Term) : Type 0 where
-  pub parallel : (a b : Term) → Contains terms a → Contains terms b → IsParallel a.path b.path
 
 -- The steps derive the rules, which are tidy, and those that were removed. A new rule takes one of the paths without a tip and some steps; the
 -- steps that are there leave room for as many as there are such paths.

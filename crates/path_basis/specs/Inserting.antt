@@ -5,17 +5,9 @@ use Rattle.quiver_paths.specs.Path.{IsFactor}
 use Rattle.quiver_paths.specs.PathOrder.{IsSmaller}
 use Rattle.path_algebra.specs.declared.Header.{Header}
 use Rattle.path_algebra.specs.declared.rules.Rule.{Rule}
-use Rattle.path_algebra.specs.Allowed.{IsAllowed}
 use Rattle.path_algebra.specs.Reduction.{HasNoTip}
-use Rattle.path_basis.specs.Gaps.{IsTidy, AreTidy}
+use Rattle.path_reduction.specs.Gaps.{AreTidy}
 use Rattle.path_basis.specs.Measure.{runs_in, free_count}
-
--- the rules are tidy, the new one is, and no tip of the rules is a factor of its tip
-pub record IsNewTo (h : Header) (rules : List Rule) (rule : Rule) : Type 0 where
-  pub allowed : IsAllowed h
-  pub tidy : AreTidy h rules
-  pub rule_tidy : IsTidy h rule
-  pub no_tip : HasNoTip h rules rule.tip
 
 -- the tip of the new rule is a factor of the old one's
 abbrev pub IsReplaced : Header → Rule → Rule → Type 0

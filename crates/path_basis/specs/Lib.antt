@@ -1,9 +1,3 @@
-pub mod Gaps
-pub mod Occurrences
-pub mod Derived
-pub mod Reducing
-pub mod FirstGaps
-pub mod Scaling
 pub mod Inserting
 pub mod Measure
 pub mod Completing

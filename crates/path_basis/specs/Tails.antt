@@ -7,8 +7,8 @@ use Rattle.path_algebra.specs.declared.rules.Rule.{Rule}
 use Rattle.path_algebra.specs.Elements.{sum_of_terms}
 use Rattle.path_algebra.specs.Rules.{AreElementTerms}
 use Rattle.path_algebra.specs.Reduction.{HasNoTip}
-use Rattle.path_basis.specs.Gaps.{reduced_terms}
-use Rattle.path_basis.specs.FirstGaps.{ForReductions}
+use Rattle.path_reduction.specs.Gaps.{reduced_terms}
+use Rattle.path_reduction.specs.FirstGaps.{ForReductions}
 
 -- the new rule has the tip of the old one, and what the old one's tail becomes as its tail
 pub record IsTailReduced (h : Header) (rules : List Rule) (old new : Rule) : Type 0 where

@@ -7,7 +7,7 @@ use Rattle.path_algebra.specs.declared.Term.{Term}
 use Rattle.path_algebra.specs.declared.Header.{Header}
 use Rattle.path_algebra.specs.declared.rules.Rule.{Rule}
 use Rattle.path_algebra.specs.Allowed.{IsAllowed}
-use Rattle.path_basis.specs.Gaps.{AreTidy}
+use Rattle.path_reduction.specs.Gaps.{AreTidy}
 
 -- the path of these loops
 abbrev pub along : List ℕ → Path

@@ -7,7 +7,7 @@ ghost use Rattle.path_algebra.specs.Allowed.{IsAllowed};
 ghost use Rattle.path_algebra.specs.Rules.{AreReducedRules};
 ghost use Rattle.path_algebra.specs.Occurring.{TipsAscend};
 ghost use Rattle.path_algebra.specs.BasisClauses.{IsBasisClaim, MeetsClauses};
-ghost use Rattle.path_basis.specs.Derived.{IsDerivation, AreDerived};
+ghost use Rattle.path_reduction.specs.Derived.{IsDerivation, AreDerived};
 ghost use Rattle.path_basis.specs.Sifting.{AreSifted};
 
 use crate::completion::complete;

@@ -7,23 +7,21 @@ ghost use Rattle.path_algebra.specs.declared.rules.Rule.{Rule};
 ghost use Rattle.path_algebra.specs.Allowed.{IsAllowed};
 ghost use Rattle.path_algebra.specs.Elements.{sum_of_terms};
 ghost use Rattle.path_algebra.specs.Rules.{AreElementTerms, rule_element};
-ghost use Rattle.path_basis.specs.Gaps.{IsTidy, HasNoGap};
-ghost use Rattle.path_basis.specs.Occurrences.{StandsAt};
-ghost use Rattle.path_basis.specs.Derived.{IsDerivation, Derives, AreDerived};
-ghost use Rattle.path_basis.specs.Reducing.{AreReducedTo};
-ghost use Rattle.path_basis.specs.FirstGaps.{ForReductions, ClosesAt, IsFirstGap};
-ghost use Rattle.path_basis.specs.Inserting.{IsNewTo};
+ghost use Rattle.path_reduction.specs.Gaps.{IsTidy, HasNoGap};
+ghost use Rattle.path_reduction.specs.Occurrences.{StandsAt};
+ghost use Rattle.path_reduction.specs.Derived.{IsDerivation, Derives, AreDerived};
+ghost use Rattle.path_reduction.specs.Reducing.{AreReducedTo};
+ghost use Rattle.path_reduction.specs.FirstGaps.{ForReductions, ClosesAt, IsFirstGap};
+ghost use Rattle.path_reduction.specs.NewRules.{AreParallel, IsNewTo};
 ghost use Rattle.path_basis.specs.Measure.{free_count};
-ghost use Rattle.path_basis.specs.Completing.{IsPlace, AreParallel, IsCompletion, HasGrown, IsSame, RelationReduces, IsClosed};
+ghost use Rattle.path_basis.specs.Completing.{IsPlace, IsCompletion, HasGrown, IsSame, RelationReduces, IsClosed};
 
-use crate::gaps::{Gap, first_gap};
 use crate::inserting::insert_rule;
-use crate::making::push_step;
-use crate::occurrences::occurrence_at_end;
 use crate::places::{Place, push_places};
-use crate::reducing::{Derived, reduce};
-use crate::rule_elements::{element_between, new_rule};
 use path_algebra::{Header, Rule, Step, terms_of_relation};
+use path_reduction::{
+    Derived, Gap, element_between, first_gap, new_rule, occurrence_at_end, push_step, reduce,
+};
 use quiver_paths::Path;
 use std::alloc::{AllocError, Global};
 use std::mem;

@@ -2,7 +2,8 @@
 ghost use Rattle.std.specs.Prelude.{◌≡◌, ◌++◌, ◌∷◌, [], IfOk, OnOk};
 ghost use Rattle.std.specs.List.{filter};
 ghost use Rattle.path_algebra.specs.declared.Header.{Header};
-ghost use Rattle.path_basis.specs.Inserting.{IsNewTo, Inserts, IsPlaceOf, has_run, lacks_run};
+ghost use Rattle.path_reduction.specs.NewRules.{IsNewTo};
+ghost use Rattle.path_basis.specs.Inserting.{Inserts, IsPlaceOf, has_run, lacks_run};
 ghost use Rattle.path_basis.specs.Measure.{runs_in};
 
 use path_algebra::Rule;

@@ -9,7 +9,7 @@ ghost use Rattle.path_algebra.specs.Allowed.{IsAllowed};
 ghost use Rattle.path_algebra.specs.Ideals.{IsInIdeal};
 ghost use Rattle.path_algebra.specs.Rules.{rule_element, AreReducedRules};
 ghost use Rattle.path_algebra.specs.Reduction.{HasNoTip, IsReduction};
-ghost use Rattle.path_basis.specs.Gaps.{AreTidy, HasNoGap, reduced_terms};
+ghost use Rattle.path_reduction.specs.Gaps.{AreTidy, HasNoGap, reduced_terms};
 
 /// Where rules of the ideal have no gap, each relation without its terms of the bound's length or more reduces to zero, and in no path of a
 /// tail a tip occurs, the rules are the reduced rules of the ideal. (Green.)

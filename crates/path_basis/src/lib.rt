@@ -3,18 +3,12 @@
 
 mod basis;
 mod completion;
-mod gaps;
 mod inserting;
 pub mod laws;
-mod making;
-mod monic;
-mod occurrences;
 mod places;
-mod reducing;
-mod rule_elements;
 mod tails;
 #[cfg(test)]
 mod tests;
 
 pub use basis::{Reduced, reduce_basis};
-pub use gaps::{Gap, first_gap};
+pub use path_reduction::{Gap, first_gap};

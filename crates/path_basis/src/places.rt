@@ -4,7 +4,7 @@ ghost use Rattle.quiver_paths.specs.Path.{IsPath, path_length};
 ghost use Rattle.quiver_paths.specs.Quiver.{arrow_count};
 ghost use Rattle.path_algebra.specs.Allowed.{IsAllowed};
 ghost use Rattle.path_algebra.specs.Words.{IsShortPath};
-ghost use Rattle.path_basis.specs.Gaps.{IsTidy};
+ghost use Rattle.path_reduction.specs.Gaps.{IsTidy};
 ghost use Rattle.path_basis.specs.Completing.{IsPlace};
 
 use path_algebra::{Header, Rule, arrow_path};

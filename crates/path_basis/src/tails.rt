@@ -3,13 +3,12 @@ ghost use Rattle.std.specs.Prelude.{◌≡◌, ◌<◌, ◌≤◌, ◌+◌, ◌*
 ghost use Rattle.quiver_paths.specs.PathList.{path_count};
 ghost use Rattle.path_algebra.specs.Allowed.{IsAllowed};
 ghost use Rattle.path_algebra.specs.Rules.{rule_element};
-ghost use Rattle.path_basis.specs.Gaps.{AreTidy};
-ghost use Rattle.path_basis.specs.Derived.{IsDerivation, Derives, Lengthens, AreDerived};
+ghost use Rattle.path_reduction.specs.Gaps.{AreTidy};
+ghost use Rattle.path_reduction.specs.Derived.{IsDerivation, Derives, Lengthens, AreDerived};
 ghost use Rattle.path_basis.specs.Tails.{IsTailReduced, AreTailsReduced};
 
-use crate::reducing::{Derived, reduce};
-use crate::rule_elements::negatives;
 use path_algebra::{Element, Header, Rule, Step};
+use path_reduction::{Derived, negatives, reduce};
 use seq::Seq;
 use std::alloc::{AllocError, Global};
 

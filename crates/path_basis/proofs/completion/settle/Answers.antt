@@ -2,8 +2,8 @@ use Rattle.std.proofs.Common.{sym, subst}
 use Rattle.std.specs.Prelude.{All}
 use Rattle.path_algebra.specs.declared.Term.{Term}
 use Rattle.path_algebra.specs.Reduction.{HasNoTip}
-use Rattle.path_basis.specs.Derived.{AreDerived}
-use Rattle.path_basis.specs.Reducing.{AreReducedTo}
+use Rattle.path_reduction.specs.Derived.{AreDerived}
+use Rattle.path_reduction.specs.Reducing.{AreReducedTo}
 use Rattle.path_basis.proofs.Settling.{parallel_reduced}
 use Rattle.path_basis.proofs.Growing.{derived_behind, derives_alone}
 use Rattle.path_basis.proofs.completion.settle.Goals as goal

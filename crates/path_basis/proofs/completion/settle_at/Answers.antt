@@ -1,5 +1,5 @@
 use Rattle.std.proofs.Common.{sym, subst}
-use Rattle.path_basis.specs.Occurrences.{StandsAt}
+use Rattle.path_reduction.specs.Occurrences.{StandsAt}
 use Rattle.path_algebra.specs.declared.rules.Rule.{Rule}
 use Rattle.path_basis.proofs.Settling.{parallel_between, match_more, closes_at_place}
 use Rattle.path_basis.proofs.completion.settle_at.Goals as goal

@@ -1,5 +1,5 @@
 use Rattle.std.proofs.Common.{arith, subst}
-use Rattle.path_basis.specs.FirstGaps.{ForReductions, IsFirstGap}
+use Rattle.path_reduction.specs.FirstGaps.{ForReductions, IsFirstGap}
 use Rattle.path_basis.proofs.Measure.{few_rules}
 use Rattle.path_basis.proofs.completion.settle_first_gap.Goals as goal
 

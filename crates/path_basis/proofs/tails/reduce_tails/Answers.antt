@@ -1,5 +1,5 @@
 use Rattle.std.proofs.Common.{arith}
-use Rattle.path_basis.proofs.Deriving.{still_derived, Lengthens-trans}
+use Rattle.path_reduction.proofs.Deriving.{still_derived, Lengthens-trans}
 use Rattle.path_basis.proofs.ReducedTails.{tails_more, derived_more}
 use Rattle.path_basis.proofs.tails.reduce_tails.Goals as goal
 

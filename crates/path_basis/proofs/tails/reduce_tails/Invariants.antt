@@ -1,5 +1,5 @@
 use Rattle.std.proofs.Common.{◌≤◌, ◌+◌, ◌*◌, length}
-use Rattle.path_basis.specs.Derived.{IsDerivation, AreDerived, Lengthens}
+use Rattle.path_reduction.specs.Derived.{IsDerivation, AreDerived, Lengthens}
 use Rattle.path_basis.specs.Tails.{AreTailsReduced}
 use Rattle.path_basis.proofs.tails.reduce_tails.Given as goal
 

@@ -5,9 +5,9 @@ use Rattle.path_algebra.specs.declared.rules.Rule.{Rule}
 use Rattle.path_algebra.specs.Elements.{path_element}
 use Rattle.path_algebra.specs.Rules.{AreElementTerms, rule_element}
 use Rattle.path_algebra.specs.ElementTerms.{negative}
-use Rattle.path_basis.specs.Gaps.{IsTidy}
-use Rattle.path_basis.specs.Derived.{Derives}
-use Rattle.path_basis.proofs.NewRules.{AreElementTerms-negated}
+use Rattle.path_reduction.specs.Gaps.{IsTidy}
+use Rattle.path_reduction.specs.Derived.{Derives}
+use Rattle.path_reduction.proofs.NewRules.{AreElementTerms-negated}
 use Rattle.path_basis.proofs.ReducedTails.{tail_reduced, tail_beside, tail_derives}
 use Rattle.path_basis.proofs.tails.with_reduced_tail.Goals as goal
 

@@ -1,0 +1,10 @@
+pub mod Extended
+pub mod Sides
+pub mod TermSums
+pub mod TipStands
+pub mod Deriving
+pub mod Rewriting
+pub mod Closing
+pub mod Scaled
+pub mod RuleElements
+pub mod NewRules

@@ -1,0 +1,7 @@
+pub mod Gaps
+pub mod Occurrences
+pub mod Derived
+pub mod Reducing
+pub mod FirstGaps
+pub mod Scaling
+pub mod NewRules
