@@ -1,6 +1,6 @@
 -- The action clause from its two parts, and what steps towards them leave.
 use Rattle.std.proofs.Common.{ℕ, ◌≡◌, ◌<◌, ◌+◌, ◌*◌, List, [], ◌∷◌, ◌++◌, length, get_or, Bool, true, false, refl, sym, ap, ◌∙◌, subst, arith}
-use Rattle.std.specs.Prelude.{IsTrue, ◌↔◌}
+use Rattle.std.specs.Prelude.{All, IsTrue, ◌↔◌}
 use Rattle.linear_algebra.specs.Field.{Gf}
 use Rattle.linear_algebra.specs.Rows.{IsRow, SameSpan, IsInSpan}
 use Rattle.quiver_paths.specs.declared.Path.{Path}
@@ -10,11 +10,14 @@ use Rattle.path_algebra.specs.declared.rules.Rule.{Rule}
 use Rattle.path_algebra.specs.Rows.{RowsView}
 use Rattle.path_algebra.specs.Reduction.{IsReduction}
 use Rattle.path_algebra.specs.BasisClauses.{ActionHolds}
-use Rattle.word_products.specs.SparseRows.{SparseView, acted_by}
-use Rattle.word_products.specs.WordProducts.{CanAct}
-use Rattle.word_products.specs.Vanishing.{AreAllProducts, RelationsVanish, LongVanish, AreImages, SpansImages, HasImages, AreZero}
+use Rattle.word_products.specs.SparseRows.{IsEntry, SparseView, SumView, dense_row, acted_by}
+use Rattle.word_products.specs.WordProducts.{CanAct, AreEntriesOf}
+use Rattle.word_products.specs.Vanishing.{AreAllProducts, RelationsVanish, LongVanish, AreImages, SpansImages, HasImages, IsRowAt, AreZero}
 use Rattle.path_algebra.proofs.ReductionExists.{HasReduction, reduction_exists}
+use Rattle.word_products.specs.declared.sparse.Entry.{Entry}
 use Rattle.word_products.proofs.SparseActs.{IsRow-acted_by}
+use Rattle.word_products.proofs.EntryRows.{entries_fit}
+use Rattle.word_products.proofs.DenseRows.{dense_entries}
 use Rattle.word_products.proofs.TermSums.{row_moved}
 use Rattle.word_products.proofs.WordRows.{are_rules}
 use Rattle.word_products.proofs.ImageSpans.{long-from_zero, zero-from_long, images-push, images-skip, images-all}
@@ -56,18 +59,35 @@ pub record IsImage (h : Header) (words : List Path) (rules : List Rule) (product
   pub place : i < length old.rows
   pub arrow : a < arrow_count h.quiver
   pub span : SpansImages h words rules k old
-  pub value : x ≡ get_or old.rows i []
-  pub row : IsRow old.field old.columns x
-  pub in_span : IsInSpan old.field old.columns old.rows x
+  pub at : IsRowAt old i x
   pub is : image ≡ acted_by products.field products.rows (arrow_count h.quiver) a x
+
+-- the image of a row by its entries
+pub image_is : (h : Header) (words : List Path) (rules : List Rule) (products : SparseView) (k : ℕ) (old : RowsView) (i a n : ℕ) (x image : List ℕ) (entries : List Entry) (s : SumView)
+    → AreAllProducts h words rules products → SpansImages h words rules k old → IsRowAt old i x → AreEntriesOf old.field x (length x) entries
+    → s ≡ record { field = h.field; width = length words; sum = s.sum } → n ≡ arrow_count h.quiver → image ≡ acted_by s.field products.rows n a (dense_row s.field s.width entries)
+    → image ≡ acted_by products.field products.rows (arrow_count h.quiver) a x
+image_is h words rules products k old i a n x image entries s all span at are is count e =
+    let field : s.field ≡ h.field = ap (λ (v : SumView). v.field) is in
+    let width : s.width ≡ length words = ap (λ (v : SumView). v.width) is in
+    e ∙ ap (λ m. acted_by s.field products.rows m a (dense_row s.field s.width entries)) count
+    ∙ ap (acted_by s.field products.rows (arrow_count h.quiver) a) (dense_entries old.field s.field s.width x entries (field ∙ sym span.field_is) (width ∙ sym (at.row.count ∙ span.columns_are)) are)
+    ∙ ap (λ (q : Gf). acted_by q products.rows (arrow_count h.quiver) a x) (field ∙ sym all.field_is)
+
+-- its entries fit the rows that sums are made in
+pub image_entries : (h : Header) (words : List Path) (rules : List Rule) (k : ℕ) (old : RowsView) (i : ℕ) (x : List ℕ) (entries : List Entry) (s : SumView)
+    → SpansImages h words rules k old → IsRowAt old i x → AreEntriesOf old.field x (length x) entries
+    → s ≡ record { field = h.field; width = length words; sum = s.sum } → All (IsEntry s.field s.width) entries
+image_entries h words rules k old i x entries s span at are is = entries_fit old.field s.field s.width x entries entries (ap (λ (v : SumView). v.field) is ∙ sym span.field_is)
+    (ap (λ (v : SumView). v.width) is ∙ sym (at.row.count ∙ span.columns_are)) refl are
 
 module _ (h : Header) (words : List Path) (rules : List Rule) (can : CanAct h words rules) (products : SparseView) (k : ℕ) (old : RowsView) (i a : ℕ) (x image : List ℕ)
     (m : IsImage h words rules products k old i a x image) (next : RowsView) (had : HasImages h words rules products k old.rows (i * arrow_count h.quiver + a) next) where
   row : IsRow h.field (length words) x
-  row = row_moved old.field h.field old.columns (length words) x (sym m.span.field_is) (sym m.span.columns_are) m.row
+  row = row_moved old.field h.field old.columns (length words) x (sym m.span.field_is) (sym m.span.columns_are) m.at.row
 
   in_span : IsInSpan h.field (length words) old.rows x
-  in_span = subst (λ (q : Gf). IsInSpan q (length words) old.rows x) m.span.field_is (subst (λ n. IsInSpan old.field n old.rows x) m.span.columns_are m.in_span)
+  in_span = subst (λ (q : Gf). IsInSpan q (length words) old.rows x) m.span.field_is (subst (λ n. IsInSpan old.field n old.rows x) m.span.columns_are m.at.in_span)
 
   is : image ≡ acted_by h.field products.rows (arrow_count h.quiver) a x
   is = m.is ∙ ap (λ q. acted_by q products.rows (arrow_count h.quiver) a x) m.all.field_is
@@ -80,11 +100,11 @@ module _ (h : Header) (words : List Path) (rules : List Rule) (can : CanAct h wo
 
   pub image_pushed : (new : RowsView) → new.field ≡ next.field → new.columns ≡ next.columns → SameSpan next.field next.columns (next.rows ++ image ∷ []) new.rows
       → HasImages h words rules products k old.rows (i * arrow_count h.quiver + a + 1) new
-  image_pushed new f c s = images-push h words rules can products m.all k old.rows i a m.place m.arrow x m.value row in_span next had image is new f c
+  image_pushed new f c s = images-push h words rules can products m.all k old.rows i a m.place m.arrow x m.at.value row in_span next had image is new f c
       (subst (λ (q : Gf). SameSpan q (length words) (next.rows ++ image ∷ []) new.rows) had.field_is (subst (λ n. SameSpan next.field n (next.rows ++ image ∷ []) new.rows) had.columns_are s)) image_row
 
   pub image_skipped : ((j : ℕ) → get_or image j 0 ≡ 0) → HasImages h words rules products k old.rows (i * arrow_count h.quiver + a + 1) next
-  image_skipped z = images-skip h words rules can products m.all k old.rows i a m.place m.arrow x m.value row in_span next had image is z
+  image_skipped z = images-skip h words rules can products m.all k old.rows i a m.place m.arrow x m.at.value row in_span next had image is z
 
 -- all images, brought into reduced form
 pub images_done : (h : Header) (words : List Path) (rules : List Rule) → CanAct h words rules → (products : SparseView) → AreAllProducts h words rules products → (k : ℕ) (old span new : RowsView) (i : ℕ)

@@ -1,5 +1,5 @@
 -- A sparse row added to zeros is the row with all entries.
-use Rattle.std.proofs.Common.{ℕ, ◌≡◌, List, length, get_or, ap, ap₂, ◌∙◌, arith}
+use Rattle.std.proofs.Common.{ℕ, ◌≡◌, ◌<◌, List, length, get_or, sym, ap, ap₂, ◌∙◌, subst, arith}
 use Rattle.std.specs.Prelude.{replicate}
 use Rattle.std.proofs.lemmas.List.{length-replicate, get_or-replicate}
 use Rattle.linear_algebra.specs.Field.{Gf, add}
@@ -9,6 +9,7 @@ use Rattle.linear_algebra.proofs.Rows.{list_of-is}
 use Rattle.word_products.specs.declared.sparse.Entry.{Entry}
 use Rattle.word_products.specs.SparseRows.{entry_at, with_multiple}
 use Rattle.word_products.specs.SparseRows.{dense_row}
+use Rattle.word_products.specs.WordProducts.{AreEntriesOf}
 use Rattle.word_products.proofs.SparseActs.{entry_at_below, length-with_multiple, with_multiple-at}
 
 pub written_row : (q q' : Gf) (n width : ℕ) (row entries : List Entry) (into : List ℕ) → q ≡ q' → row ≡ entries → into ≡ replicate n 0 → n ≡ width
@@ -23,3 +24,9 @@ written_row q q' n width row entries into e r z l =
   where
     count : length into ≡ width
     count = ap length z ∙ length-replicate n 0 ∙ l
+
+-- the entries of a row are those of the sparse row
+pub dense_entries : (q q' : Gf) (n : ℕ) (x : List ℕ) (entries : List Entry) → q' ≡ q → n ≡ length x → AreEntriesOf q x (length x) entries → dense_row q' n entries ≡ x
+unfolding dense_row
+dense_entries q q' n x entries e w a = ap (λ p. list_of n (entry_at p entries)) e
+    ∙ sym (list_of-is n (entry_at q entries) x 0 (sym w) (λ j l. sym (a.within j (subst (λ m. j < m) w l))))

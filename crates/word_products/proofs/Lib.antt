@@ -10,3 +10,5 @@ pub mod ActingRows
 pub mod ImageSpans
 pub mod ActionSteps
 pub mod DenseRows
+pub mod TouchedRows
+pub mod TakenSums

@@ -61,6 +61,10 @@ pub with_multiple-none : (q : Gf) (f : ℕ) (row : List ℕ) → IsRow q (length
 unfolding with_multiple
 with_multiple-none q f row r = list_of-is (length row) _ row 0 refl (λ j l. sym (ap (λ x. add q (get_or row j 0) (mul q f x)) (entry_at-none q j) ∙ ap (add q (get_or row j 0)) (mul_zero q f) ∙ add_zero q (get_or row j 0) (r.small j)))
 
+pub with_multiple-zero : (q : Gf) (f : ℕ) (xs : List Entry) (row : List ℕ) → f ≡ 0 → IsRow q (length row) row → row ≡ with_multiple q f xs row
+unfolding with_multiple
+with_multiple-zero q f xs row z r = list_of-is (length row) _ row 0 refl (λ j l. sym (ap (λ x. add q (get_or row j 0) (mul q x (entry_at q xs j))) z ∙ ap (add q (get_or row j 0)) (zero_mul q (entry_at q xs j)) ∙ add_zero q (get_or row j 0) (r.small j)))
+
 pub with_multiple-push : (q : Gf) (f : ℕ) (xs : List Entry) (e : Entry) (row : List ℕ) → e.word < length row
     → set (with_multiple q f xs row) e.word (add q (get_or (with_multiple q f xs row) e.word 0) (mul q f e.coef)) ≡ with_multiple q f (xs ++ e ∷ []) row
 unfolding with_multiple

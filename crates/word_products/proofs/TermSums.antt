@@ -1,10 +1,10 @@
 -- Sums of terms that act on a word, step by step.
-use Rattle.std.proofs.Common.{ℕ, ◌≡◌, ◌≢◌, ◌<◌, ◌≤◌, ◌+◌, inl, inr, List, [], ◌∷◌, ◌++◌, length, take, get_or, set, Bool, true, false, ◌&&◌, eqb, ltb, if◌then◌else◌, refl, sym, ap, ap₂, ◌∙◌, subst, arith}
+use Rattle.std.proofs.Common.{ℕ, ◌≡◌, ◌≢◌, ◌<◌, ◌≤◌, ◌+◌, inl, inr, List, [], ◌∷◌, ◌++◌, length, take, get_or, set, Bool, true, false, ◌&&◌, eqb, ltb, if◌then◌else◌, sym, ap, ap₂, ◌∙◌, subst, arith}
 use Rattle.std.specs.Prelude.{replicate}
-use Rattle.std.proofs.lemmas.Bool.{cases_lt, cases_eq, cases_Bool, cond-true, cond-false, eq-eqb, ne_eqb, lt-ltb, le-ltb, ltb-true, eqb-true, and_parts, and_from}
+use Rattle.std.proofs.lemmas.Bool.{cases_eq, cases_Bool, cond-true, cond-false, eq-eqb, ne_eqb, lt-ltb, le-ltb, ltb-true, eqb-true, and_parts, and_from}
 use Rattle.std.proofs.lemmas.List.{get_or-replicate, length-replicate, get_or-set_same, get_or-set_other, length-set, take_more}
 use Rattle.linear_algebra.specs.Field.{Gf, order, add, mul}
-use Rattle.linear_algebra.specs.FieldLaws.{order-pos, one-lt-order, add_below, add_zero}
+use Rattle.linear_algebra.specs.FieldLaws.{order-pos, one-lt-order, add_zero}
 use Rattle.linear_algebra.specs.Rows.{IsRow, zeros, unit}
 use Rattle.linear_algebra.proofs.Rows.{length-list_of, get_or-list_of, list_of-is}
 use Rattle.quiver_paths.specs.declared.Path.{Path}
@@ -12,7 +12,7 @@ use Rattle.quiver_paths.specs.Path.{path_length}
 use Rattle.path_algebra.specs.declared.Term.{Term}
 use Rattle.word_products.specs.declared.sparse.Entry.{Entry}
 use Rattle.path_algebra.specs.Elements.{sum_over}
-use Rattle.word_products.specs.SparseRows.{SumView, acted_along, plus_to, plus_multiple, counts, acted_terms}
+use Rattle.word_products.specs.SparseRows.{SumView, acted_along, plus_multiple, counts, acted_terms}
 use Rattle.word_products.proofs.SparseActs.{IsRow-list_of, add_right_zero}
 use Rattle.path_algebra.proofs.SumsOver.{sum_over_below, sum_over-append, sum_over-nil, sum_over-cons}
 
@@ -42,63 +42,14 @@ unit-set n p l = list_of-is n _ (set (replicate n 0) p 1) 0 (length-set (replica
 
 -- ---- a multiple of a row
 
-module _ (q : Gf) (f : ℕ) (from row : List ℕ) where
-  value : ℕ → ℕ → ℕ
-  value k j = if ltb j k then add q (get_or row j 0) (mul q f (get_or from j 0)) else get_or row j 0
+pub length-plus_multiple : (q : Gf) (f : ℕ) (from row : List ℕ) → length (plus_multiple q f from row) ≡ length row
+unfolding plus_multiple
+length-plus_multiple q f from row = length-list_of (length row) _
 
-  pub length-plus_to : (k : ℕ) → length (plus_to q f from row k) ≡ length row
-  unfolding plus_to
-  length-plus_to k = length-list_of (length row) _
-
-  plus_to-at : (k j : ℕ) → j < length row → get_or (plus_to q f from row k) j 0 ≡ value k j
-  unfolding plus_to value
-  plus_to-at k j l = get_or-list_of (length row) _ j 0 l
-
-  value-past : (k j : ℕ) → k ≤ j → value k j ≡ get_or row j 0
-  unfolding value
-  value-past k j l = cond-false (ltb j k) _ _ (le-ltb _ _ l)
-
-  value-before : (k j : ℕ) → j < k → value k j ≡ add q (get_or row j 0) (mul q f (get_or from j 0))
-  unfolding value
-  value-before k j l = cond-true (ltb j k) _ _ (lt-ltb _ _ l)
-
-  pub plus_multiple-at : (j : ℕ) → j < length row → get_or (plus_multiple q f from row) j 0 ≡ add q (get_or row j 0) (mul q f (get_or from j 0))
-  plus_multiple-at j l = plus_to-at (length row) j l ∙ value-before (length row) j l
-
-  pub IsRow-plus_to : (k : ℕ) → IsRow q (length row) row → IsRow q (length row) (plus_to q f from row k)
-  unfolding plus_to
-  IsRow-plus_to k r = IsRow-list_of q (length row) _ (λ j l. chosen (ltb j k) j)
-    where
-      chosen : (b : Bool) (j : ℕ) → (if b then add q (get_or row j 0) (mul q f (get_or from j 0)) else get_or row j 0) < order q
-      chosen true j = add_below q _ _
-      chosen false j = r.small j
-
-  pub plus_to-none : row ≡ plus_to q f from row 0
-  unfolding plus_to
-  plus_to-none = list_of-is (length row) _ row 0 refl (λ j l. sym (cond-false (ltb j 0) _ _ (le-ltb _ _ (omega arith))))
-
-  pub plus_to-step : (into : List ℕ) (k m v : ℕ) → k < length row → into ≡ plus_to q f from row k → m ≡ mul q f (get_or from k 0) → v ≡ add q (get_or into k 0) m
-      → set into k v ≡ plus_to q f from row (k + 1)
-  unfolding plus_to value
-  plus_to-step into k m v l i e a = list_of-is (length row) (value (k + 1)) (set into k v) 0 (length-set into k v ∙ ap length i ∙ length-plus_to k) at
-    where
-      inside : k < length into
-      inside = subst (λ n. k < n) (sym (ap length i ∙ length-plus_to k)) l
-
-      here : v ≡ value (k + 1) k
-      here = a ∙ ap₂ (add q) (ap (λ x. get_or x k 0) i ∙ plus_to-at k k l ∙ value-past k k (omega arith)) e ∙ sym (value-before (k + 1) k (omega arith))
-
-      other : (j : ℕ) → j ≢ k → value k j ≡ value (k + 1) j
-      other j d = elim (cases_lt j k) [
-        | inl b ↦ value-before k j b ∙ sym (value-before (k + 1) j (omega (arith, b)))
-        | inr b ↦ value-past k j b ∙ sym (value-past (k + 1) j (omega (arith, b, d)))
-      ]
-
-      at : (j : ℕ) → j < length row → get_or (set into k v) j 0 ≡ value (k + 1) j
-      at j b = elim (cases_eq j k) [
-        | inl s ↦ subst (λ x. get_or (set into k v) x 0 ≡ value (k + 1) x) (sym s) (get_or-set_same into k v 0 inside ∙ here)
-        | inr d ↦ get_or-set_other into k j v 0 d ∙ ap (λ x. get_or x j 0) i ∙ plus_to-at k j b ∙ other j d
-      ]
+pub plus_multiple-at : (q : Gf) (f : ℕ) (from row : List ℕ) (j : ℕ) → j < length row
+    → get_or (plus_multiple q f from row) j 0 ≡ add q (get_or row j 0) (mul q f (get_or from j 0))
+unfolding plus_multiple
+plus_multiple-at q f from row j l = get_or-list_of (length row) _ j 0 l
 
 -- ---- terms that count
 
@@ -128,7 +79,7 @@ module _ (q : Gf) (rows : List (List Entry)) (arrows bound : ℕ) (like : Path) 
   unfolding acted_terms
   acted_terms-push terms term row = elim (cases_Bool (counts bound like term)) [
     | inl c ↦ cond-true (counts bound like term) _ _ c
-        ∙ list_of-is (length row) _ (plus_multiple q term.coef along sum) 0 (length-plus_to q term.coef along sum (length sum) ∙ width)
+        ∙ list_of-is (length row) _ (plus_multiple q term.coef along sum) 0 (length-plus_multiple q term.coef along sum ∙ width)
         (λ j l. plus_multiple-at q term.coef along sum j (subst (λ n. j < n) (sym width) l) ∙ ap (λ x. add q x (mul q term.coef (get_or along j 0))) (sum-at j l)
         ∙ ap (add q (sum_over q terms (part j))) (sym (cond-true (counts bound like term) _ _ c)) ∙ last j)
     | inr c ↦ cond-false (counts bound like term) _ _ c
@@ -185,11 +136,6 @@ module _ (q : Gf) (rows : List (List Entry)) (arrows bound : ℕ) (like : Path) 
 
 pub row_moved : (q q' : Gf) (n m : ℕ) (x : List ℕ) → q' ≡ q → m ≡ n → IsRow q n x → IsRow q' m x
 row_moved q q' n m x e l r = subst (λ p. IsRow p m x) (sym e) (subst (λ k. IsRow q k x) (sym l) r)
-
-pub sum_row : (q q' : Gf) (n f : ℕ) (from row row' new : List ℕ) → q' ≡ q → row' ≡ row → IsRow q n row → new ≡ plus_multiple q' f from row' → IsRow q n new
-sum_row q q' n f from row row' new e i r a =
-    subst (IsRow q n) (sym (a ∙ ap₂ (λ p x. plus_multiple p f from x) e i))
-    (row_moved q q (length row) n (plus_multiple q f from row) refl (sym r.count) (IsRow-plus_to q f from row (length row) (row_moved q q n (length row) row refl r.count r)))
 
 pub acted_terms-at : (q : Gf) (rows : List (List Entry)) (arrows bound : ℕ) (like : Path) (terms : List Term) (row : List ℕ) (j : ℕ) → j < length row
     → get_or (acted_terms q rows arrows bound like terms row) j 0

@@ -150,6 +150,10 @@ module _ (h : Header) (words : List Path) (rules : List Rule) (can : CanAct h wo
   pub short_word : (i : ℕ) → i < length words → IsShortPath h (path_at words i)
   short_word i l = (can.word.only (path_at words i) (word_listed words i l)).0
 
+  -- no row
+  pub knows-none : (rows : List (List Entry)) → rows ≡ [] → KnowsProducts h words rules rows
+  knows-none rows e = record { products = λ becomes red. record { row = λ i a li la s. absurd (omega (arith, s, ap length e)) } }
+
   -- a row more
   pub knows-push : (rows : List (List Entry)) (i a : ℕ) (entries : List Entry) → KnowsProducts h words rules rows → i < length words → a < arrow_count h.quiver
       → length rows ≡ i * arrow_count h.quiver + a

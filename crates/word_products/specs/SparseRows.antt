@@ -1,5 +1,5 @@
 -- Rows over the words of which only some entries are written, and what they do to rows of which all are.
-use Rattle.std.specs.Prelude.{ℕ, ◌≡◌, ◌<◌, ◌≤◌, ◌+◌, ◌*◌, ◌-◌, List, [], ◌∷◌, length, take, drop, All, slice_index, slice_index_or, if◌then◌else◌, ◌==◌, ◌&&◌, nat_lt, Bool}
+use Rattle.std.specs.Prelude.{ℕ, ◌≡◌, ◌≢◌, ◌<◌, ◌≤◌, ◌+◌, ◌*◌, ◌-◌, List, [], ◌∷◌, length, take, drop, All, Contains, slice_index, slice_index_or, slice_set, if◌then◌else◌, ◌==◌, ◌&&◌, nat_lt, Bool}
 use Rattle.linear_algebra.specs.Field.{Gf, order, add, mul}
 use Rattle.linear_algebra.specs.Sums.{sum_to}
 use Rattle.linear_algebra.specs.Rows.{list_of, IsRow}
@@ -64,13 +64,9 @@ pub record SparseView : Type 0 where
   pub width : ℕ
   pub rows : List (List Entry)
 
--- a row, and a multiple of another row added at its first k places
-unfoldable pub plus_to : Gf → ℕ → List ℕ → List ℕ → ℕ → List ℕ
-plus_to q factor from row k = list_of (length row) (λ j. if nat_lt j k then add q (slice_index row j) (mul q factor (slice_index from j)) else slice_index row j)
-
--- at all places
-abbrev pub plus_multiple : Gf → ℕ → List ℕ → List ℕ → List ℕ
-plus_multiple q factor from row = plus_to q factor from row (length row)
+-- a row, and a multiple of another row added
+unfoldable pub plus_multiple : Gf → ℕ → List ℕ → List ℕ → List ℕ
+plus_multiple q factor from row = list_of (length row) (λ j. add q (slice_index row j) (mul q factor (slice_index from j)))
 
 -- the term is shorter than the bound, and starts and ends where the path does
 unfoldable pub counts : ℕ → Path → Term → Bool
@@ -81,6 +77,32 @@ unfoldable pub acted_terms : Gf → List (List Entry) → ℕ → ℕ → Path �
 acted_terms q rows arrows bound like terms row = list_of (length row) (λ j. sum_over q terms (λ term.
     if counts bound like term then mul q term.coef (slice_index (acted_along q rows arrows term.path.arrows row) j) else 0))
 
+-- what contracts see of a row beside a list of places: of the list how long it is
+pub record TouchedView : Type 0 where
+  pub field : Gf
+  pub width : ℕ
+  pub row : List ℕ
+  pub listed : ℕ
+
+-- each place at which the row is not zero is listed
+pub record HoldsTouched (q : Gf) (width : ℕ) (row places : List ℕ) : Type 0 where
+  pub row_is : IsRow q width row
+  pub inside : All (λ p. p < width) places
+  pub listed : (j : ℕ) → slice_index row j ≢ 0 → Contains places j
+
+-- it is a row of this width over this field
+pub record IsRowOver (q : Gf) (width : ℕ) (t : TouchedView) : Type 0 where
+  pub field_is : t.field ≡ q
+  pub width_is : t.width ≡ width
+  pub row_is : IsRow q width t.row
+
+-- the coefficient at a place is taken out, and zero left there
+pub record IsTakenOut (old new : TouchedView) (e : Entry) : Type 0 where
+  pub entry : IsEntry old.field old.width e
+  pub coef_is : e.coef ≡ slice_index old.row e.word
+  pub left : new.row ≡ slice_set old.row e.word 0
+  pub fewer : new.listed < old.listed
+
 -- what contracts see of the rows that sums are made in
 pub record SumView : Type 0 where
   pub field : Gf
@@ -88,7 +110,7 @@ pub record SumView : Type 0 where
   pub sum : List ℕ
 
 -- all are rows of one width
-pub record HoldsSum (q : Gf) (width : ℕ) (sum row spare : List ℕ) : Type 0 where
-  pub sum_is : IsRow q width sum
-  pub row_count : length row ≡ width
-  pub spare_count : length spare ≡ width
+pub record HoldsSum (q : Gf) (width : ℕ) (sum row spare : TouchedView) : Type 0 where
+  pub sum_is : IsRowOver q width sum
+  pub row_is : IsRowOver q width row
+  pub spare_is : IsRowOver q width spare

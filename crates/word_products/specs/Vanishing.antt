@@ -1,7 +1,7 @@
 -- What acts as zero on the words, and the images of the trivial words under paths of one length.
 use Rattle.std.specs.Prelude.{ℕ, ◌≡◌, ◌<◌, ◌+◌, ◌*◌, List, [], length, Contains, slice_index, slice_index_or}
 use Rattle.linear_algebra.specs.Field.{Gf, order}
-use Rattle.linear_algebra.specs.Rows.{IsInSpan}
+use Rattle.linear_algebra.specs.Rows.{IsRow, IsInSpan}
 use Rattle.quiver_paths.specs.declared.Path.{Path}
 use Rattle.quiver_paths.specs.Quiver.{vertex_count, arrow_count}
 use Rattle.quiver_paths.specs.Path.{IsPath, Leads, path_length, trivial_path}
@@ -81,6 +81,12 @@ pub record HasImages (h : Header) (words : List Path) (rules : List Rule) (produ
   pub has : (i a : ℕ) → i < length old → a < arrow_count h.quiver → i * arrow_count h.quiver + a < m
       → (length (slice_index_or old i []) ≡ length words) × IsInSpan h.field (length words) span.rows (acted_by h.field products.rows (arrow_count h.quiver) a (slice_index_or old i []))
   pub vanish : (becomes : Path → Path → ℕ) → IsReduction h rules becomes → RowsVanish h words becomes k old → RowsVanish h words becomes (k + 1) span.rows
+
+-- the row at a place among the collected rows
+pub record IsRowAt (span : RowsView) (i : ℕ) (x : List ℕ) : Type 0 where
+  pub value : x ≡ slice_index_or span.rows i []
+  pub row : IsRow span.field span.columns x
+  pub in_span : IsInSpan span.field span.columns span.rows x
 
 -- all combinations of the rows are zero
 pub record AreZero (q : Gf) (n : ℕ) (rows : List (List ℕ)) : Type 0 where

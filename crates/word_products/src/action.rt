@@ -7,12 +7,12 @@ ghost use Rattle.quiver_paths.specs.Path.{path_length};
 ghost use Rattle.path_algebra.specs.Rows.{path_at};
 ghost use Rattle.path_algebra.specs.Reduction.{IsReduction};
 ghost use Rattle.path_algebra.specs.BasisClauses.{ActionHolds};
-ghost use Rattle.word_products.specs.WordProducts.{CanAct};
-ghost use Rattle.word_products.specs.Vanishing.{AreAllProducts, VanishesOn, RelationVanishes, RelationsVanish, LongVanish, SpansImages, SpansTrivial, HasImages, AreZero};
+ghost use Rattle.word_products.specs.WordProducts.{CanAct, AreEntriesOf};
+ghost use Rattle.word_products.specs.Vanishing.{AreAllProducts, VanishesOn, RelationVanishes, RelationsVanish, LongVanish, SpansImages, SpansTrivial, HasImages, IsRowAt, AreZero};
 
 use crate::closure::Closure;
 use crate::multiplying::product_rows;
-use crate::sparse::SparseRows;
+use crate::sparse::{Entry, SparseRows, entries_of};
 use crate::word_sums::Sum;
 use path_algebra::{Header, Relation, Rule};
 use quiver_paths::Path;
@@ -31,10 +31,11 @@ fn action_holds(
     ensures { IfOk result (λ b. IsTrue b ↔ ActionHolds header.now words.now rules.now) }
 {
     let mut sum = Sum::new(alloc, header.field, words.len())?;
-    if !relations_vanish(header, words, rules, rows, &mut sum) {
+    let relations = relations_vanish(header, words, rules, rows, &mut sum)?;
+    if !relations {
         return Ok(false);
     }
-    let long = long_paths_vanish(alloc, header, words, rules, rows)?;
+    let long = long_paths_vanish(alloc, header, words, rules, rows, &mut sum)?;
     Ok(long)
 }
 
@@ -45,18 +46,20 @@ fn relations_vanish(
     rules: &[Rule],
     rows: &SparseRows,
     sum: &mut Sum,
-) -> bool
+) -> Result<bool, AllocError>
     requires can { CanAct header.now words.now rules.now }
     requires rows { AreAllProducts header.now words.now rules.now rows.now }
     requires sum { sum.old ≡ record { field = header.now.field; width = length words.now; sum = sum.old.sum } }
-    ensures { (becomes : Path → Path → ℕ) → IsReduction header.now rules.now becomes → IsTrue result ↔ RelationsVanish header.now words.now becomes }
+    ensures sum { OnOk result (sum.new ≡ record sum.old { sum = sum.new.sum }) }
+    ensures vanish { IfOk result (λ b. (becomes : Path → Path → ℕ) → IsReduction header.now rules.now becomes → IsTrue b ↔ RelationsVanish header.now words.now becomes) }
 {
     for relation in header.relations.as_slice() {
-        if !relation_vanishes(header, words, rules, rows, relation, sum) {
-            return false;
+        let vanishes = relation_vanishes(header, words, rules, rows, relation, sum)?;
+        if !vanishes {
+            return Ok(false);
         }
     }
-    true
+    Ok(true)
 }
 
 /// Whether a relation acts as zero on all words.
@@ -67,20 +70,21 @@ fn relation_vanishes(
     rows: &SparseRows,
     relation: &Relation,
     sum: &mut Sum,
-) -> bool
+) -> Result<bool, AllocError>
     requires can { CanAct header.now words.now rules.now }
     requires rows { AreAllProducts header.now words.now rules.now rows.now }
     requires relation { Contains header.now.relations relation.now }
     requires sum { sum.old ≡ record { field = header.now.field; width = length words.now; sum = sum.old.sum } }
-    ensures sum { sum.new ≡ record sum.old { sum = sum.new.sum } }
-    ensures vanishes { (becomes : Path → Path → ℕ) → IsReduction header.now rules.now becomes → IsTrue result ↔ RelationVanishes header.now words.now becomes relation.now }
+    ensures sum { OnOk result (sum.new ≡ record sum.old { sum = sum.new.sum }) }
+    ensures vanishes { IfOk result (λ b. (becomes : Path → Path → ℕ) → IsReduction header.now rules.now becomes → IsTrue b ↔ RelationVanishes header.now words.now becomes relation.now) }
 {
     for i in 0..words.len() {
-        if !vanishes_on(header, words, rules, rows, relation, i, sum) {
-            return false;
+        let vanishes = vanishes_on(header, words, rules, rows, relation, i, sum)?;
+        if !vanishes {
+            return Ok(false);
         }
     }
-    true
+    Ok(true)
 }
 
 /// Whether a relation acts as zero on the word at a place.
@@ -92,14 +96,14 @@ fn vanishes_on(
     relation: &Relation,
     i: usize,
     sum: &mut Sum,
-) -> bool
+) -> Result<bool, AllocError>
     requires can { CanAct header.now words.now rules.now }
     requires rows { AreAllProducts header.now words.now rules.now rows.now }
     requires relation { Contains header.now.relations relation.now }
     requires place { i < length words.now }
     requires sum { sum.old ≡ record { field = header.now.field; width = length words.now; sum = sum.old.sum } }
-    ensures sum { sum.new ≡ record sum.old { sum = sum.new.sum } }
-    ensures vanishes { (becomes : Path → Path → ℕ) → IsReduction header.now rules.now becomes → IsTrue result ↔ VanishesOn header.now words.now becomes relation.now (path_at words.now i) }
+    ensures sum { OnOk result (sum.new ≡ record sum.old { sum = sum.new.sum }) }
+    ensures vanishes { IfOk result (λ b. (becomes : Path → Path → ℕ) → IsReduction header.now rules.now becomes → IsTrue b ↔ VanishesOn header.now words.now becomes relation.now (path_at words.now i)) }
 {
     let first = &relation.terms[0];
     sum.of_terms(
@@ -109,8 +113,8 @@ fn vanishes_on(
         &first.path,
         relation.terms.as_slice(),
         i,
-    );
-    is_zero(sum.row())
+    )?;
+    Ok(sum.is_zero())
 }
 
 /// Whether all entries of a row are zero.
@@ -132,14 +136,16 @@ fn long_paths_vanish(
     words: &[Path],
     rules: &[Rule],
     rows: &SparseRows,
+    sum: &mut Sum,
 ) -> Result<bool, AllocError>
     requires can { CanAct header.now words.now rules.now }
     requires rows { AreAllProducts header.now words.now rules.now rows.now }
+    requires sum { sum.old ≡ record { field = header.now.field; width = length words.now; sum = sum.old.sum } }
     ensures { IfOk result (λ b. (becomes : Path → Path → ℕ) → IsReduction header.now rules.now becomes → IsTrue b ↔ LongVanish header.now words.now becomes) }
 {
     let mut span = trivial_words(alloc, header, words, rules)?;
     for k in 0..header.bound {
-        span = images(alloc, header, words, rules, rows, k, &span)?;
+        span = images(alloc, header, words, rules, rows, k, &span, sum)?;
     }
     Ok(all_zero(&span))
 }
@@ -214,18 +220,20 @@ fn images(
     rows: &SparseRows,
     k: u32,
     span: &Closure,
+    sum: &mut Sum,
 ) -> Result<Closure, AllocError>
     requires can { CanAct header.now words.now rules.now }
     requires rows { AreAllProducts header.now words.now rules.now rows.now }
     requires below { k < header.now.bound }
     requires span { SpansImages header.now words.now rules.now k span.now }
-    ensures { IfOk result (SpansImages header.now words.now rules.now (k + 1)) }
+    requires sum { sum.old ≡ record { field = header.now.field; width = length words.now; sum = sum.old.sum } }
+    ensures sum { OnOk result (sum.new ≡ record sum.old { sum = sum.new.sum }) }
+    ensures images { IfOk result (SpansImages header.now words.now rules.now (k + 1)) }
 {
     let mut next = Closure::new(alloc, header.field, words.len() as u32)?;
-    let mut image = vec![in alloc; 0u8; words.len()]?;
     for i in 0..span.len() {
         add_images(
-            header, words, rules, rows, k, span, i, &mut next, &mut image,
+            alloc, header, words, rules, rows, k, span, i, &mut next, sum,
         )?;
     }
     next.reduce();
@@ -234,6 +242,7 @@ fn images(
 
 /// Adds the images of a row under the arrows.
 fn add_images(
+    alloc: Global,
     header: &Header,
     words: &[Path],
     rules: &[Rule],
@@ -242,24 +251,29 @@ fn add_images(
     span: &Closure,
     i: u32,
     next: &mut Closure,
-    image: &mut [u8],
+    sum: &mut Sum,
 ) -> Result<(), AllocError>
     requires can { CanAct header.now words.now rules.now }
     requires rows { AreAllProducts header.now words.now rules.now rows.now }
     requires below { k < header.now.bound }
     requires span { SpansImages header.now words.now rules.now k span.now }
     requires place { i < length span.now.rows }
-    requires image { length image.old ≡ length words.now }
     requires next { HasImages header.now words.now rules.now rows.now k span.now.rows (i * arrow_count header.now.quiver) next.old }
-    ensures { OnOk result (HasImages header.now words.now rules.now rows.now k span.now.rows ((i + 1) * arrow_count header.now.quiver) next.new) }
+    requires sum { sum.old ≡ record { field = header.now.field; width = length words.now; sum = sum.old.sum } }
+    ensures sum { OnOk result (sum.new ≡ record sum.old { sum = sum.new.sum }) }
+    ensures next { OnOk result (HasImages header.now words.now rules.now rows.now k span.now.rows ((i + 1) * arrow_count header.now.quiver) next.new) }
 {
+    let row = span.row(i);
+    let entries = entries_of(alloc, row)?;
     for a in 0..header.quiver.arrows.len() {
-        add_image(header, words, rules, rows, k, span, i, a, next, image)?;
+        add_image(
+            header, words, rules, rows, k, span, i, row, &entries, a, next, sum,
+        )?;
     }
     Ok(())
 }
 
-/// Adds the image of a row under an arrow.
+/// Adds the image of the row at a place under an arrow.
 fn add_image(
     header: &Header,
     words: &[Path],
@@ -268,23 +282,28 @@ fn add_image(
     k: u32,
     span: &Closure,
     i: u32,
+    row: &[u8],
+    entries: &[Entry],
     a: usize,
     next: &mut Closure,
-    image: &mut [u8],
+    sum: &mut Sum,
 ) -> Result<(), AllocError>
     requires can { CanAct header.now words.now rules.now }
     requires rows { AreAllProducts header.now words.now rules.now rows.now }
     requires below { k < header.now.bound }
     requires span { SpansImages header.now words.now rules.now k span.now }
     requires place { i < length span.now.rows }
+    requires row { IsRowAt span.now i row.now }
+    requires entries { AreEntriesOf span.now.field row.now (length row.now) entries.now }
     requires arrow { a < arrow_count header.now.quiver }
-    requires image { length image.old ≡ length words.now }
     requires next { HasImages header.now words.now rules.now rows.now k span.now.rows (i * arrow_count header.now.quiver + a) next.old }
-    ensures { OnOk result (HasImages header.now words.now rules.now rows.now k span.now.rows (i * arrow_count header.now.quiver + a + 1) next.new) }
+    requires sum { sum.old ≡ record { field = header.now.field; width = length words.now; sum = sum.old.sum } }
+    ensures sum { OnOk result (sum.new ≡ record sum.old { sum = sum.new.sum }) }
+    ensures next { OnOk result (HasImages header.now words.now rules.now rows.now k span.now.rows (i * arrow_count header.now.quiver + a + 1) next.new) }
 {
-    rows.act(header.quiver.arrows.len(), a, span.row(i), image);
-    if !is_zero(image) {
-        next.push(image)?;
+    sum.of_entries(rows, header.quiver.arrows.len(), a, entries)?;
+    if !sum.is_zero() {
+        next.push(sum.row())?;
     }
     Ok(())
 }

@@ -5,6 +5,7 @@ mod action;
 mod closure;
 mod multiplying;
 mod sparse;
+mod touched;
 mod word_sums;
 
 pub use action::products_if_action_holds;

@@ -1,7 +1,5 @@
 //! The products of words with arrows, by reduction.
 ghost use Rattle.std.specs.Prelude.{ℕ, ◌≡◌, ◌<◌, ◌≤◌, ◌+◌, ◌*◌, ◌-◌, length, Contains, All, IfOk, OnOk, MatchOption, slice_index, slice_index_or, drop, ◌↔◌, IsTrue};
-ghost use Rattle.linear_algebra.specs.Field.{Gf};
-ghost use Rattle.linear_algebra.specs.Rows.{IsRow};
 ghost use Rattle.quiver_paths.specs.declared.Path.{Path};
 ghost use Rattle.quiver_paths.specs.PathOrder.{IsAscending};
 ghost use Rattle.quiver_paths.specs.Quiver.{arrow_count};
@@ -9,7 +7,7 @@ ghost use Rattle.quiver_paths.specs.Path.{IsPath, path_length, concat, arrow_pat
 ghost use Rattle.path_algebra.specs.declared.rules.Rule.{Rule};
 ghost use Rattle.word_products.specs.declared.sparse.Entry.{Entry};
 ghost use Rattle.word_products.specs.SparseRows.{IsEntry, entry_at};
-ghost use Rattle.word_products.specs.WordProducts.{KnowsProducts, CanAct, EndsWithArrows, IsNewProduct, front_before, AreEntriesOf, IsPushed};
+ghost use Rattle.word_products.specs.WordProducts.{KnowsProducts, CanAct, EndsWithArrows, IsNewProduct, front_before, IsPushed};
 
 use crate::sparse::{Entry, SparseRows};
 use crate::word_sums::Sum;
@@ -228,7 +226,7 @@ fn add_by_rule(
         &rule.tip,
         rule.tail.terms.as_slice(),
         place,
-    );
+    )?;
     push_sum(alloc, rows, sum)
 }
 
@@ -272,31 +270,14 @@ fn ends_with(path: &Path, tip: &Path) -> bool
     last == tip.arrows.as_slice()
 }
 
-/// Adds the row of a sum, without its zeros.
-fn push_sum(alloc: Global, rows: &mut SparseRows, sum: &Sum) -> Result<(), AllocError>
-    requires field { rows.old.field ≡ sum.now.field }
-    requires width { rows.old.width ≡ sum.now.width }
-    requires few { sum.now.width ≤ 4096 }
+/// Adds the row of a sum, without its zeros. They are taken out of there.
+fn push_sum(alloc: Global, rows: &mut SparseRows, sum: &mut Sum) -> Result<(), AllocError>
+    requires field { rows.old.field ≡ sum.old.field }
+    requires width { rows.old.width ≡ sum.old.width }
     ensures shape { OnOk result (rows.new ≡ record rows.old { rows = rows.new.rows }) }
-    ensures pushed { OnOk result (IsPushed rows.old.field rows.old.rows rows.new.rows sum.now.sum) }
+    ensures sum { OnOk result (sum.new ≡ record sum.old { sum = sum.new.sum }) }
+    ensures pushed { OnOk result (IsPushed rows.old.field rows.old.rows rows.new.rows sum.old.sum) }
 {
-    let entries = entries_of(alloc, sum.row())?;
+    let entries = sum.take_entries(alloc)?;
     rows.push_row(&entries)
-}
-
-/// The entries of a row that are not zero, with their places.
-fn entries_of(alloc: Global, row: &[u8]) -> Result<Vec<Entry>, AllocError>
-    requires few { length row.now ≤ 4096 }
-    ensures { (q : Gf) → IsRow q (length row.now) row.now → IfOk result (λ entries. AreEntriesOf q row.now (length row.now) entries.items) }
-{
-    let mut entries = Vec::new(alloc);
-    for (j, coef) in row.iter().enumerate() {
-        if *coef != 0 {
-            entries.push(Entry {
-                coef: *coef,
-                word: j as u16,
-            })?;
-        }
-    }
-    Ok(entries)
 }

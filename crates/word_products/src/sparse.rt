@@ -1,8 +1,9 @@
 //! Rows over the words of which only some entries are written.
-ghost use Rattle.std.specs.Prelude.{◌≡◌, ◌<◌, ◌≤◌, ◌++◌, ◌∷◌, [], length, All, OnOk, slice_index_or};
-ghost use Rattle.linear_algebra.specs.Field.{order};
+ghost use Rattle.std.specs.Prelude.{◌≡◌, ◌<◌, ◌≤◌, ◌++◌, ◌∷◌, [], length, All, IfOk, OnOk, slice_index_or};
+ghost use Rattle.linear_algebra.specs.Field.{Gf, order};
 ghost use Rattle.linear_algebra.specs.Rows.{IsRow};
 ghost use Rattle.word_products.specs.SparseRows.{IsEntry, begin_of, dense_row, with_multiple, acted_by, acted_along};
+ghost use Rattle.word_products.specs.WordProducts.{AreEntriesOf};
 
 use fp_linear::Field;
 use std::alloc::{AllocError, Global};
@@ -45,13 +46,6 @@ impl SparseRows {
             ends: Vec::new(alloc),
             entries: Vec::new(alloc),
         }
-    }
-
-    /// The field of the coefficients.
-    pub(crate) fn field(&self) -> Field
-        ensures { result ≡ self.now.field }
-    {
-        self.field
     }
 
     /// Adds a row behind the others.
@@ -144,4 +138,21 @@ pub(crate) fn add_multiple(field: Field, factor: u8, row: &[Entry], into: &mut [
         let place = entry.word as usize;
         into[place] = field.add(into[place], field.mul(factor, entry.coef));
     }
+}
+
+/// The entries of a row that are not zero, with their places.
+pub(crate) fn entries_of(alloc: Global, row: &[u8]) -> Result<Vec<Entry>, AllocError>
+    requires few { length row.now ≤ 4096 }
+    ensures { (q : Gf) → IsRow q (length row.now) row.now → IfOk result (λ entries. AreEntriesOf q row.now (length row.now) entries.items) }
+{
+    let mut entries = Vec::new(alloc);
+    for (j, coef) in row.iter().enumerate() {
+        if *coef != 0 {
+            entries.push(Entry {
+                coef: *coef,
+                word: j as u16,
+            })?;
+        }
+    }
+    Ok(entries)
 }

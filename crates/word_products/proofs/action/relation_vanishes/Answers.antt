@@ -7,9 +7,9 @@ use Rattle.word_products.proofs.action.relation_vanishes.Goals as goal
 differ : {A : Type 0} → false ≡ true → A
 differ e = absurd (cc)
 
-pub returns-then-not-vanishes_on-clause-vanishes : goal.returns-then-not-vanishes_on-clause-vanishes
-returns-then-not-vanishes_on-clause-vanishes c becomes red =
-    (λ t. differ t, λ v. sym c.if-not-vanishes_on.true ∙ (c.vanishes_on.ensures.vanishes becomes red).1 (v.vanishes (path_at c.args.words.now c.loop-i.i) (word_listed c.args.words.now c.loop-i.i c.loop-i-test.true)))
+pub returns-then-not-vanishes-clause-vanishes : goal.returns-then-not-vanishes-clause-vanishes
+returns-then-not-vanishes-clause-vanishes c becomes red =
+    (λ t. differ t, λ v. sym c.if-not-vanishes.true ∙ (c.in_ok-vanishes.ensures.vanishes becomes red).1 (v.vanishes (path_at c.args.words.now c.loop-i.i) (word_listed c.args.words.now c.loop-i.i c.loop-i-test.true)))
 
 pub returns-clause-vanishes : goal.returns-clause-vanishes
 returns-clause-vanishes c becomes red = (

@@ -8,9 +8,9 @@ use Rattle.word_products.proofs.action.vanishes_on.Goals as goal
 pub of_terms-requires-clause-terms : goal.of_terms-requires-clause-terms
 of_terms-requires-clause-terms c = rw (c.len.ensures, c.as_slice.ensures) (relation_arrows c.args.header.now c.args.words.now c.args.rules.now c.requires.can c.args.relation.now c.requires.relation)
 
-row_is : (c : goal.After-is_zero) → c.row.result.now ≡ acted_terms c.args.header.now.field c.args.rows.now.rows (arrow_count c.args.header.now.quiver) c.args.header.now.bound c.index-first.result.now.path
+row_is : (c : goal.After-is_zero) → c.of_terms.new.self.sum ≡ acted_terms c.args.header.now.field c.args.rows.now.rows (arrow_count c.args.header.now.quiver) c.args.header.now.bound c.index-first.result.now.path
     c.args.relation.now.terms (unit (length c.args.words.now) c.args.i)
-row_is c = c.row.ensures.value ∙ ap (λ (v : SumView). v.sum) c.of_terms.ensures
+row_is c = ap (λ (v : SumView). v.sum) c.in_ok-of_terms.ensures
     ∙ ap₂ (λ n ts. acted_terms c.args.sum.now.field c.args.rows.now.rows n c.args.header.now.bound c.index-first.result.now.path ts (unit c.args.sum.now.width c.args.i)) c.len.ensures c.as_slice.ensures
     ∙ ap (λ (v : SumView). acted_terms v.field c.args.rows.now.rows (arrow_count c.args.header.now.quiver) c.args.header.now.bound c.index-first.result.now.path c.args.relation.now.terms (unit v.width c.args.i))
     c.requires.sum

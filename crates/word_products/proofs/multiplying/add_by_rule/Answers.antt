@@ -28,7 +28,7 @@ returns-clause-products c = on_ok_weaker c.push_sum.result (λ e. step_tail c.ar
     c.args.path.now c.requires.product c.index-rules-k.result (c.args.k, c.requires.rule, sym c.index-rules-k.is)
     (subst (λ (x : Rule). EndsWithArrows x.tip c.args.path.now) (sym c.index-rules-k.is) (c.requires.ends c.index-rules-k.result))
     c.push_sum.new.rows.rows c.in_ok-front.front c.place_of-place.result c.of_terms.new.self.sum c.in_ok-front.ensures c.place_of-place.ensures.inside c.place_of-place.ensures.there
-    (ap (λ (v : SumView). v.sum) c.of_terms.ensures
+    (ap (λ (v : SumView). v.sum) c.in_ok-of_terms.ensures
     ∙ ap₂ (λ n ts. acted_terms c.args.sum.now.field c.args.rows.now.rows n c.args.header.now.bound c.index-rules-k.result.tip ts (unit c.args.sum.now.width c.place_of-place.result)) c.len.ensures c.as_slice.ensures
     ∙ ap (λ (v : SumView). acted_terms v.field c.args.rows.now.rows (arrow_count c.args.header.now.quiver) c.args.header.now.bound c.index-rules-k.result.tip c.index-rules-k.result.tail.terms
     (unit v.width c.place_of-place.result)) c.requires.sum)

@@ -1,4 +1,4 @@
-use Rattle.std.proofs.Common.{◌≡◌, ap, ap₂, sym, subst, ◌∙◌, ◌∷◌, []}
+use Rattle.std.proofs.Common.{ap, ap₂, sym, subst, ◌∙◌, ◌∷◌, []}
 use Rattle.linear_algebra.specs.Rows.{IsRow, unit}
 use Rattle.word_products.specs.SparseRows.{acted_along}
 use Rattle.word_products.proofs.SparseActs.{acted_along-first, IsRow-acted_along}

@@ -1,8 +1,8 @@
 use Rattle.std.proofs.Common.{◌≡◌, ◌+◌, subst, sym, refl, ap, get_or, ◌∙◌, arith, length}
 use Rattle.word_products.specs.WordProducts.{AreEntriesOf}
 use Rattle.word_products.proofs.EntryRows.{entries-none, entries-skip, entries-push}
-use Rattle.word_products.proofs.multiplying.entries_of.Goals as goal
-use Rattle.word_products.proofs.multiplying.entries_of.Goals.{then-coef-ne0+in_ok-push, else-coef-ne0}
+use Rattle.word_products.proofs.sparse.entries_of.Goals as goal
+use Rattle.word_products.proofs.sparse.entries_of.Goals.{then-coef-ne0+in_ok-push, else-coef-ne0}
 
 pub loop-j-init : goal.loop-j-init
 loop-j-init c q r = subst (AreEntriesOf q c.args.row.now 0) (sym c.new-entries.ensures.items) (entries-none q c.args.row.now)
