@@ -7,3 +7,4 @@ pub mod CheckedTable
 pub mod FirstWords
 pub mod PlaceLists
 pub mod TableActs
+pub mod WorkedLoops
