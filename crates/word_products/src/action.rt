@@ -1,6 +1,6 @@
 //! Whether the relations and the paths of the bound's length act as zero on the words.
 ghost use Rattle.std.specs.Prelude.{ℕ, ◌≡◌, ◌<◌, ◌≤◌, ◌+◌, ◌*◌, length, Contains, All, IfOk, OnOk, MatchOption, IsTrue, ◌↔◌, slice_index, slice_index_or, [], ◌∷◌, ◌++◌};
-ghost use Rattle.linear_algebra.specs.Rows.{IsRow, IsInSpan, unit};
+ghost use Rattle.linear_algebra.specs.Rows.{unit};
 ghost use Rattle.quiver_paths.specs.declared.Path.{Path};
 ghost use Rattle.quiver_paths.specs.Quiver.{arrow_count};
 ghost use Rattle.quiver_paths.specs.Path.{path_length};

@@ -6,7 +6,6 @@ ghost use Rattle.quiver_paths.specs.Quiver.{arrow_count};
 ghost use Rattle.quiver_paths.specs.Path.{IsPath, path_length, concat, arrow_path};
 ghost use Rattle.path_algebra.specs.declared.rules.Rule.{Rule};
 ghost use Rattle.word_products.specs.declared.sparse.Entry.{Entry};
-ghost use Rattle.word_products.specs.SparseRows.{IsEntry, entry_at};
 ghost use Rattle.word_products.specs.WordProducts.{KnowsProducts, CanAct, EndsWithArrows, IsNewProduct, front_before, IsPushed};
 
 use crate::sparse::{Entry, SparseRows};
