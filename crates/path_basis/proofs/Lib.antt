@@ -8,3 +8,5 @@ pub mod Inserted
 pub mod ReducedTails
 pub mod NormalWords
 pub mod WorkedRules
+pub mod Marks
+pub mod Kept

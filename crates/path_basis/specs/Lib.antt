@@ -4,3 +4,5 @@ pub mod Completing
 pub mod Tails
 pub mod Sifting
 pub mod Worked
+pub mod Used
+pub mod Pruning

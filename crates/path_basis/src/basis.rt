@@ -9,8 +9,10 @@ ghost use Rattle.path_algebra.specs.Occurring.{TipsAscend};
 ghost use Rattle.path_algebra.specs.BasisClauses.{IsBasisClaim, MeetsClauses};
 ghost use Rattle.path_reduction.specs.Derived.{IsDerivation, AreDerived};
 ghost use Rattle.path_basis.specs.Sifting.{AreSifted};
+ghost use Rattle.path_basis.specs.Used.{HasNoUnusedStep};
 
 use crate::completion::complete;
+use crate::pruning::drop_unused_steps;
 use crate::tails::reduce_tails;
 use alg_table::{CheckBasisError, Table, check_basis};
 use path_algebra::{Header, Rule, Step, has_tip};
@@ -18,7 +20,8 @@ use quiver_paths::{Path, PathError, paths_below};
 use seq::Seq;
 use std::alloc::{AllocError, Global};
 
-/// The table of an algebra, with the reduced rules of its ideal, by ascending tips, and the steps that derive them from the relations.
+/// The table of an algebra, with the reduced rules of its ideal, by ascending tips, and the steps that derive them from the relations; each step
+/// is that of a rule, or a later one names it.
 #[derive(Drop)]
 pub struct Reduced {
     pub table: Table,
@@ -35,6 +38,7 @@ pub fn reduce_basis(alloc: Global, header: &Header) -> Result<Reduced, PathError
     ensures rules { IfOk result (λ r. AreReducedRules header.now r.rules) }
     ensures claim { IfOk result (λ r. IsBasisClaim header.now r.table.words r.steps r.rules) }
     ensures holds { IfOk result (λ r. MeetsClauses header.now r.table.words r.steps r.rules) }
+    ensures used { IfOk result (λ r. HasNoUnusedStep r.steps r.rules) }
     ensures few_steps { IfOk result (λ r. length r.steps < 2 ^ 32) }
     ensures few_rules { IfOk result (λ r. length r.rules ≤ 4096) }
     ensures within { OnOk result (path_count header.now.quiver header.now.bound ≤ 4096) }
@@ -52,19 +56,21 @@ pub fn reduce_basis(alloc: Global, header: &Header) -> Result<Reduced, PathError
     })
 }
 
-/// The reduced rules, and the steps that derive them.
+/// The reduced rules, and the steps that derive them, of which none is unused.
 fn reduced_rules(alloc: Global, header: &Header) -> Result<(Vec<Rule>, Vec<Step>), AllocError>
     requires allowed { IsAllowed header.now }
     requires few { path_count header.now.quiver header.now.bound ≤ 4096 }
     ensures rules { IfOk result (λ r. AreReducedRules header.now r.0.items) }
     ensures lawful { IfOk result (λ r. IsDerivation header.now r.1.items) }
     ensures derived { IfOk result (λ r. AreDerived header.now r.1.items r.0.items) }
+    ensures used { IfOk result (λ r. HasNoUnusedStep r.1.items r.0.items) }
     ensures few_rules { IfOk result (λ r. length r.0.items ≤ 4096) }
     ensures few_steps { IfOk result (λ r. length r.1.items < 2 ^ 32) }
 {
     let completion = complete(alloc, header)?;
     let mut steps = completion.steps;
-    let rules = reduce_tails(alloc, header, &completion.rules, &mut steps)?;
+    let reduced = reduce_tails(alloc, header, &completion.rules, &mut steps)?;
+    let (rules, steps) = drop_unused_steps(alloc, reduced, &steps)?;
     Ok((rules, steps))
 }
 

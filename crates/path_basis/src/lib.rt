@@ -6,6 +6,7 @@ mod completion;
 mod inserting;
 pub mod laws;
 mod places;
+mod pruning;
 mod tails;
 #[cfg(test)]
 mod tests;

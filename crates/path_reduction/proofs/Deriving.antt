@@ -42,7 +42,7 @@ element_at-push h steps s n i =
     ap (λ es. element_at es n) (elements_behind-push h [] steps s)
     ∙ get_or_append_left (step_elements h steps) (step_element h (step_elements h steps) s ∷ []) (λ p. 0) (n - 1) (let a = i.from in let b = i.to in let e = step_elements-length h steps in omega arith)
 
-element_at-last : (h : Header) (steps : List Step) (s : Step) → element_at (step_elements h (steps ++ s ∷ [])) (length steps + 1) ≡ step_element h (step_elements h steps) s
+pub element_at-last : (h : Header) (steps : List Step) (s : Step) → element_at (step_elements h (steps ++ s ∷ [])) (length steps + 1) ≡ step_element h (step_elements h steps) s
 element_at-last h steps s =
     let place : length steps + 1 - 1 ≡ length (step_elements h steps) = (let e = step_elements-length h steps in omega arith) in
     ap₂ (λ es n. slice_index_or es n (λ p. 0)) (elements_behind-push h [] steps s) place
@@ -73,7 +73,7 @@ derives_push h steps new s n pushed number d named factor =
     }))
 
 -- what was made stays
-element_at-append : (h : Header) (more old : List Step) (n : ℕ) → IsNumber (length old) n → element_at (step_elements h (old ++ more)) n ≡ element_at (step_elements h old) n
+pub element_at-append : (h : Header) (more old : List Step) (n : ℕ) → IsNumber (length old) n → element_at (step_elements h (old ++ more)) n ≡ element_at (step_elements h old) n
 element_at-append h [] old n i = ap (λ xs. element_at (step_elements h xs) n) (append-nil old)
 element_at-append h (s ∷ more) old n i =
     ap (λ xs. element_at (step_elements h xs) n) (sym (append_assoc old (s ∷ []) more))
