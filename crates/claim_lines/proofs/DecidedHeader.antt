@@ -16,8 +16,8 @@ use Rattle.header_text.specs.declared.forms.Form.{Form}
 use Rattle.header_text.specs.declared.forms.Form.TheVariants.{Field, Vertex, Arrow as ArrowForm, Bound, Relation as RelationForm}
 use Rattle.header_text.specs.Part.{Part, IsOpen, IsArrowOf, FitsVertex, FitsArrow, FitsBound, FitsRelation, Fits, tokens_of, after, Step, IsFront}
 use Rattle.header_text.proofs.FormLemmas.{step_of, no_step_of, no_step_lexed}
-use Rattle.claim_lines.proofs.Deciding.{Decided, both, like, three, four, five, fails, tested, below, at_most, same_numbers, same_tokens, of_each, IsListed, found, just, either, images, pairs, numbers_below, lists_to}
-use Rattle.claim_lines.proofs.DecidedPaths.{relation_decided, IsTermBelow, terms_listed, relation_terms, fields_listed}
+use Rattle.deciding.proofs.Deciding.{Decided, both, like, three, four, five, fails, tested, below, at_most, same_numbers, same_tokens, of_each, IsListed, found, just, either, images, pairs, numbers_below, lists_to}
+use Rattle.deciding.proofs.DecidedPaths.{relation_decided, IsTermBelow, terms_listed, relation_terms, fields_listed}
 
 is_true : (b : Bool) → Decided (b ≡ true)
 is_true true = inl refl

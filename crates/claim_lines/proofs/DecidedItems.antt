@@ -19,14 +19,14 @@ use Rattle.header_text.specs.Spelling.{term_text, plus_each}
 use Rattle.claim_types.specs.declared.reports.Why.TheVariants.{NotBuilt, PathLimit}
 use Rattle.claim_types.specs.declared.reports.End.{End}
 use Rattle.claim_types.specs.declared.reports.End.TheVariants.{Done, Refused}
-use Rattle.claim_types.specs.Limits.{length_limit}
+use Rattle.claim_types.specs.Limits.{length_limit, IsLine}
 use Rattle.claim_types.specs.Lawful.{IsFullEnd, IsWrittenRule}
 use Rattle.claim_lines.specs.declared.ends.First.{First}
 use Rattle.claim_lines.specs.declared.ends.First.TheVariants as first
 use Rattle.claim_lines.specs.Spelling.{tail_form, rule_line}
 use Rattle.claim_lines.specs.Items.{IsCount, FitsFirst, FitsWord, FitsStep, FitsRule}
-use Rattle.claim_lines.proofs.Deciding.{Decided, both, like, three, four, fails, if_so, below, at_most, of_each, IsListed, fewer, just, either, images, pairs, numbers_below, lists_to}
-use Rattle.claim_lines.proofs.DecidedPaths.{number_decided, line_decided, path_decided, same_paths, short_decided, tail_decided, IsPathBelow, paths_listed, IsTermBelow, terms_listed, tail_terms}
+use Rattle.deciding.proofs.Deciding.{Decided, both, like, three, four, fails, if_so, below, at_most, of_each, IsListed, fewer, just, either, images, pairs, numbers_below, lists_to}
+use Rattle.deciding.proofs.DecidedPaths.{number_decided, path_decided, same_paths, short_decided, tail_decided, IsPathBelow, paths_listed, IsTermBelow, terms_listed, tail_terms}
 
 -- ---- numerals
 
@@ -41,6 +41,9 @@ count_decided ds =
     (three (below 0 (length ds)) (digits_decided ds) (if_so (cases_eq (get_or ds 0 0) 48) (cases_eq (length ds) 1)))
 
 -- ---- first lines
+
+line_decided : (n : ℕ) → Decided (IsLine n)
+line_decided n = like (λ h. record { from = h.0; to = h.1 }) (λ h. (h.from, h.to)) (both (at_most 1 n) (at_most n 4194304))
 
 pub first_decided : (f : First) → Decided (FitsFirst f)
 first_decided (first.Basis line) = line_decided line

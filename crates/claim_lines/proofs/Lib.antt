@@ -5,7 +5,5 @@ pub mod RuleReading
 pub mod EndReading
 pub mod FittingLines
 pub mod Clear
-pub mod Deciding
-pub mod DecidedPaths
 pub mod DecidedHeader
 pub mod DecidedItems

@@ -2,6 +2,7 @@
 use Rattle.std.proofs.Common.{◌≡◌, ℕ, ◌+◌, ◌<◌, ◌≤◌, ◌^◌, Bool, true, false, List, [], ◌∷◌, length, get_or, codes, decimal, ◌⊎◌, inl, inr, Some, None, refl, sym, ap, ◌∙◌, subst, arith, lit<}
 use Rattle.std.specs.declared.option.Option.{Option}
 use Rattle.text_lines.specs.Strict.{strict_tokens}
+use Rattle.text_lines.proofs.Readings.{Goes}
 use Rattle.header_text.specs.Part.{Part as HeaderPart, IsFront}
 use Rattle.header_text.proofs.FrontLemmas.{front_after}
 use Rattle.header_text.proofs.Uniqueness.{decimal_one}
@@ -16,16 +17,12 @@ use Rattle.claim_lines.specs.Spelling.{title_line, words_line, word_line, step_l
 use Rattle.claim_lines.specs.Items.{IsCount, FitsFirst, first_line, FitsWord, FitsStep, FitsRule}
 use Rattle.claim_text.specs.Part.{with_title, with_first, with_word_count, with_word, with_step_count, with_step, with_rule_count, with_rule, with_end}
 use Rattle.claim_text.specs.Steps.{Takes, TokenStep, LexedStep, FrontStep, is_header_line, StepBy, Step}
-use Rattle.claim_lines.proofs.Deciding.{Decided, both, below, at_most, same_tokens, IsListed, found, just, numbers_below}
+use Rattle.deciding.proofs.Deciding.{Decided, both, below, at_most, same_tokens, IsListed, found, just, numbers_below}
 use Rattle.claim_lines.proofs.DecidedHeader.{header_goes}
 use Rattle.claim_lines.proofs.DecidedItems.{count_decided, first_decided, firsts_listed, word_decided, words_listed, step_decided, steps_listed, rule_decided, RuleIn, rules_listed, rule_in, end_decided, ends_listed}
 use Rattle.claim_lines.proofs.EndReading.{one_first, one_end}
 use Rattle.claim_lines.proofs.FittingLines.{one_fitting_word, one_fitting_step, one_fitting_rule}
 use Rattle.claim_text.proofs.TakenLines.{takes, few_relations}
-
--- a step to some part, or none
-abbrev pub Goes : (Part → Type 0) → Type 0
-Goes To = ((q : Part) × To q) ⊎ ((q : Part) → To q → ⊥)
 
 takes_go : {X : Type 0} (C Fits : X → Type 0) (spell : X → List (List ℕ)) (taken : X → Part) (ts : List (List ℕ)) → ((y z : X) → Fits y → Fits z → spell y ≡ spell z → y ≡ z) → IsListed C
     → ((x : X) → Fits x → ts ≡ spell x → C x) → ((x : X) → Decided (Fits x)) → Goes (Takes Fits spell taken ts)

@@ -11,14 +11,13 @@ use Rattle.path_algebra.specs.Allowed.{IsAllowed}
 use Rattle.text_lines.specs.Lines.{lines}
 use Rattle.text_lines.specs.Parts.{Lacks}
 use Rattle.text_lines.specs.Strict.{strict_line}
-use Rattle.text_lines.specs.Reading.{Reads, ReadsWhole, IsFirstBad}
-use Rattle.text_lines.proofs.Readings.{whole_not_bad, one_bad}
+use Rattle.text_lines.proofs.Readings.{reads_one, whole_not_bad, one_bad, ReadOrBad, no_lines_read_or_bad, lines_read_or_bad}
 use Rattle.header_text.specs.Part.{start as header_start, IsStart, IsFront}
 use Rattle.header_text.proofs.FrontLemmas.{start_front}
 use Rattle.claim_text.specs.declared.part.Place.{Place}
 use Rattle.claim_text.specs.declared.part.Place.TheVariants as place
-use Rattle.claim_lines.proofs.Deciding.{Decided}
-use Rattle.claim_text.proofs.DecidedLines.{Goes, line_goes, front_kept}
+use Rattle.deciding.proofs.Deciding.{Decided}
+use Rattle.claim_text.proofs.DecidedLines.{line_goes, front_kept}
 use Rattle.header_text.specs.Spelling.{header_lines, text_of}
 use Rattle.header_text.proofs.Joining.{text_of-append}
 use Rattle.quiver_paths.specs.declared.Quiver.{Quiver}
@@ -123,15 +122,11 @@ pub text_reads : (text : List ℕ) (r : Report) → IsTextOf text r → ReadsTo 
 text_reads text r is =
     subst (ReadsTo r) (sym (ap lines is.spelled ∙ lines_of_text (report_lines r) (report_lacks r is.report_is))) (report_reads r.header r.records r.end is.report_is.header is.report_is.records is.report_is.ends)
 
-reads_one : (p q r : Part) (ls : List (List ℕ)) → Reads Step p ls q → Reads Step p ls r → q ≡ r
-reads_one p q r [] a b = a ∙ sym b
-reads_one p q r (l ∷ ls) a b = reads_one b.0 q r ls (subst (λ m. Reads Step m ls q) (Step-determined p l a.0 b.0 a.1 b.1) a.2) b.2
-
 pub one_report : (text : List ℕ) (r s : Report) → IsTextOf text r → IsTextOf text s → r ≡ s
 one_report text r s a b =
     let x = text_reads text r a in
     let y = text_reads text s b in
-    sym x.report ∙ (ap report_of (reads_one start x.last y.last (lines text) x.reads y.reads) ∙ y.report)
+    sym x.report ∙ (ap report_of (reads_one Step Step-determined start x.last y.last (lines text) x.reads y.reads) ∙ y.report)
 
 pub one_bad_line : (text : List ℕ) (j k : ℕ) → IsBadLine text j → IsBadLine text k → j ≡ k
 one_bad_line text j k a b = one_bad Step MayEnd Step-determined start (lines text) j k a b
@@ -140,21 +135,6 @@ pub report_not_bad : (text : List ℕ) (r : Report) (k : ℕ) → IsTextOf text 
 report_not_bad text r k is bad =
     let x = text_reads text r is in
     whole_not_bad Step MayEnd Step-determined start x.last (lines text) k record { reads = x.reads; ends = x.ends } bad
-
--- a first bad line behind a line that was read
-behind_line : (p q : Part) (l : List ℕ) (ls : List (List ℕ)) (k : ℕ) → Step p l q → IsFirstBad Step MayEnd q ls k → IsFirstBad Step MayEnd p (l ∷ ls) (k + 1)
-behind_line p q l ls k step bad = record {
-  front = l ∷ bad.front;
-  rest = bad.rest;
-  reached = bad.reached;
-  split = ap (λ xs. l ∷ xs) bad.split;
-  reads = (q, step, bad.reads);
-  stuck = bad.stuck;
-  number = omega (arith, bad.number);
-}
-
-whole_behind : (p q r : Part) (l : List ℕ) (ls : List (List ℕ)) → Step p l q → ReadsWhole Step MayEnd q ls r → ReadsWhole Step MayEnd p (l ∷ ls) r
-whole_behind p q r l ls step whole = record { reads = (q, step, whole.reads); ends = whole.ends }
 
 ended : (s : Place) → Decided (s ≡ place.Ended)
 ended place.Title = inr (λ e. cc)
@@ -168,33 +148,14 @@ ended (place.Rules n) = inr (λ e. cc)
 ended place.Last = inr (λ e. cc)
 ended place.Ended = inl refl
 
--- the lines are read whole, or one of them is the first bad one
-ReadOrBad : Part → List (List ℕ) → Type 0
-ReadOrBad p ls = ((q : Part) × ReadsWhole Step MayEnd p ls q) ⊎ ((k : ℕ) × IsFirstBad Step MayEnd p ls k)
-
-go_on : (p : Part) (l : List ℕ) (ls : List (List ℕ)) → Goes (Step p l) → ((q : Part) → Step p l q → ReadOrBad q ls) → ReadOrBad p (l ∷ ls)
-unfolding ReadOrBad
-go_on p l ls (inr stuck) rest = inr (1, record { front = []; rest = l ∷ ls; reached = p; split = refl; reads = refl; stuck = stuck; number = refl })
-go_on p l ls (inl go) rest =
-    elim (rest go.0 go.1) [
-      | inl whole ↦ inl (whole.0, whole_behind p go.0 whole.0 l ls go.1 whole.1)
-      | inr bad ↦ inr (bad.0 + 1, behind_line p go.0 l ls bad.0 go.1 bad.1)
-    ]
-
-read_or_bad : (p : Part) → IsFront p.front → (ls : List (List ℕ)) → ReadOrBad p ls
-unfolding ReadOrBad
-read_or_bad p front [] =
-    elim (ended p.place) [
-      | inl ends ↦ inl (p, record { reads = refl; ends = ends })
-      | inr early ↦ inr (1, record { front = []; rest = []; reached = p; split = refl; reads = refl; stuck = early; number = refl })
-    ]
-read_or_bad p front (l ∷ ls) = go_on p l ls (line_goes p front l) (λ q step. read_or_bad q (front_kept p q l step front) ls)
+read_or_bad : (p : Part) → IsFront p.front → (ls : List (List ℕ)) → ReadOrBad Step MayEnd p ls
+read_or_bad p front [] = no_lines_read_or_bad Step MayEnd p (ended p.place)
+read_or_bad p front (l ∷ ls) = lines_read_or_bad Step MayEnd p l ls (line_goes p front l) (λ q step. read_or_bad q (front_kept p q l step front) ls)
 
 header_starts : IsStart header_start
 header_starts = record { unbegun = refl; no_vertex = refl; no_arrow = refl; unbound = refl; no_relation = refl }
 
 pub report_or_bad : (text : List ℕ) → ((r : Report) × IsTextOf text r) ⊎ ((k : ℕ) × IsBadLine text k)
-unfolding ReadOrBad
 report_or_bad text =
     elim (read_or_bad start (start_front header_start header_starts) (lines text)) [
       | inl whole ↦ inl (report_of whole.0, read_is_report text whole.0 whole.1)

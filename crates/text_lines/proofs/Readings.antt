@@ -1,5 +1,5 @@
 -- Laws of reading line by line.
-use Rattle.std.proofs.Common.{◌≡◌, ℕ, List, [], ◌∷◌, ◌++◌, length, suc, refl, sym, ap, ◌∙◌, subst, arith}
+use Rattle.std.proofs.Common.{◌≡◌, ℕ, ◌+◌, List, [], ◌∷◌, ◌++◌, length, suc, ◌⊎◌, inl, inr, refl, sym, ap, ◌∙◌, subst, arith}
 use Rattle.text_lines.specs.Reading.{Reads, ReadsWhole, IsStuck, IsFirstBad, IsDetermined}
 
 cons_head : (x y : List ℕ) (xs ys : List (List ℕ)) → x ∷ xs ≡ y ∷ ys → x ≡ y
@@ -16,6 +16,14 @@ module _ {Part : Type 0} (Step : Part → List ℕ → Part → Type 0) where
   -- one line more
   pub Reads-push : (p q r : Part) (xs : List (List ℕ)) (x : List ℕ) → Reads Step p xs q → Step q x r → Reads Step p (xs ++ x ∷ []) r
   Reads-push p q r xs x a b = Reads-append p q r xs (x ∷ []) a (r, b, refl)
+
+  pub reads_one : IsDetermined Step → (p q r : Part) (text : List (List ℕ)) → Reads Step p text q → Reads Step p text r → q ≡ r
+  reads_one one p q r [] a b = a ∙ sym b
+  reads_one one p q r (x ∷ xs) a b = reads_one one b.0 q r xs (subst (λ m. Reads Step m xs q) (one p x a.0 b.0 a.1 b.1) a.2) b.2
+
+-- something goes on to some part, or to none
+abbrev pub Goes : {Part : Type 0} → (Part → Type 0) → Type 0
+Goes {Part} To = ((q : Part) × To q) ⊎ ((q : Part) → To q → ⊥)
 
 module _ {Part : Type 0} (Step : Part → List ℕ → Part → Type 0) (MayEnd : Part → Type 0) where
   -- Lines that are read whole and lines that get stuck after a front of them are not the same.
@@ -46,3 +54,34 @@ module _ {Part : Type 0} (Step : Part → List ℕ → Part → Type 0) (MayEnd 
   one_bad one p text j k a b =
       let same = same_front one p a.reached b.reached a.front a.rest b.front b.rest (sym a.split ∙ b.split) a.reads a.stuck b.reads b.stuck in
       omega (arith, same, a.number, b.number)
+
+  -- a first bad line behind a line that was read
+  behind_line : (p q : Part) (x : List ℕ) (xs : List (List ℕ)) (k : ℕ) → Step p x q → IsFirstBad Step MayEnd q xs k → IsFirstBad Step MayEnd p (x ∷ xs) (k + 1)
+  behind_line p q x xs k step bad = record {
+    front = x ∷ bad.front;
+    rest = bad.rest;
+    reached = bad.reached;
+    split = ap (λ ys. x ∷ ys) bad.split;
+    reads = (q, step, bad.reads);
+    stuck = bad.stuck;
+    number = omega (arith, bad.number);
+  }
+
+  whole_behind : (p q r : Part) (x : List ℕ) (xs : List (List ℕ)) → Step p x q → ReadsWhole Step MayEnd q xs r → ReadsWhole Step MayEnd p (x ∷ xs) r
+  whole_behind p q r x xs step whole = record { reads = (q, step, whole.reads); ends = whole.ends }
+
+  -- the lines are read whole, or one of them is the first bad one
+  abbrev pub ReadOrBad : Part → List (List ℕ) → Type 0
+  ReadOrBad p text = ((q : Part) × ReadsWhole Step MayEnd p text q) ⊎ ((k : ℕ) × IsFirstBad Step MayEnd p text k)
+
+  pub no_lines_read_or_bad : (p : Part) → MayEnd p ⊎ (MayEnd p → ⊥) → ReadOrBad p []
+  no_lines_read_or_bad p (inl ends) = inl (p, record { reads = refl; ends = ends })
+  no_lines_read_or_bad p (inr early) = inr (1, record { front = []; rest = []; reached = p; split = refl; reads = refl; stuck = early; number = refl })
+
+  pub lines_read_or_bad : (p : Part) (x : List ℕ) (xs : List (List ℕ)) → Goes (Step p x) → ((q : Part) → Step p x q → ReadOrBad q xs) → ReadOrBad p (x ∷ xs)
+  lines_read_or_bad p x xs (inr stuck) rest = inr (1, record { front = []; rest = x ∷ xs; reached = p; split = refl; reads = refl; stuck = stuck; number = refl })
+  lines_read_or_bad p x xs (inl go) rest =
+      elim (rest go.0 go.1) [
+        | inl whole ↦ inl (whole.0, whole_behind p go.0 whole.0 x xs go.1 whole.1)
+        | inr bad ↦ inr (bad.0 + 1, behind_line p go.0 x xs bad.0 go.1 bad.1)
+      ]

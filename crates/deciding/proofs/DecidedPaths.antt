@@ -21,14 +21,10 @@ use Rattle.path_algebra.specs.Allowed.{IsTerm, IsParallel, IsRelation}
 use Rattle.path_algebra.specs.Words.{IsShortPath}
 use Rattle.path_algebra.specs.Rules.{AreElementTerms}
 use Rattle.path_algebra.specs.Derivations.{IsNumber}
-use Rattle.claim_types.specs.Limits.{IsLine}
-use Rattle.claim_lines.proofs.Deciding.{Decided, both, like, three, four, five, fails, below, at_most, same_numbers, of_each, of_pairs, IsListed, fewer, images, pairs, numbers_below}
+use Rattle.deciding.proofs.Deciding.{Decided, both, like, three, four, five, fails, below, at_most, same_numbers, of_each, of_pairs, IsListed, fewer, images, pairs, numbers_below}
 
 pub number_decided : (last n : ℕ) → Decided (IsNumber last n)
 number_decided last n = like (λ h. record { from = h.0; to = h.1 }) (λ h. (h.from, h.to)) (both (at_most 1 n) (at_most n last))
-
-pub line_decided : (n : ℕ) → Decided (IsLine n)
-line_decided n = like (λ h. record { from = h.0; to = h.1 }) (λ h. (h.from, h.to)) (both (at_most 1 n) (at_most n 4194304))
 
 leads_decided : (Q : Quiver) (u : ℕ) (arrows : List ℕ) (w : ℕ) → Decided (Leads Q u arrows w)
 leads_decided Q u [] w = cases_eq u w

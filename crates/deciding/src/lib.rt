@@ -1,0 +1,2 @@
+//! Deciding, for proofs: of what is finite it is decided whether it holds; paths, terms, relations and their lists are so. There is no code here.
+#![tactic(auto)]
