@@ -3,6 +3,7 @@ use Rattle.std.proofs.Common.{ℕ, ◌≡◌, ◌≤◌, ◌+◌, ◌*◌, inl, 
 use Rattle.std.specs.Prelude.{Contains, All}
 use Rattle.std.proofs.lemmas.List.Elements.{All-contains, All-weaker, All-contains_itself, Contains-append_cases}
 use Rattle.std.proofs.lemmas.List.{take-append-drop}
+use Rattle.std.proofs.Math.Seq.{take-append_seam}
 use Rattle.linear_algebra.specs.FieldLaws.{zero_add}
 use Rattle.quiver_paths.specs.declared.Path.{Path}
 use Rattle.path_algebra.specs.declared.Term.{Term}
@@ -22,7 +23,8 @@ use Rattle.quiver_paths.specs.PathOrder.{IsSmaller}
 use Rattle.quiver_paths.specs.PathList.{path_count}
 use Rattle.quiver_paths.proofs.ListLemmas.{AllPairs-nil, Contains-nil}
 use Rattle.path_basis.proofs.Measure.{free_count-le}
-use Rattle.path_basis.specs.Completing.{IsCompletion, HasGrown}
+use Rattle.path_basis.specs.declared.places.Place.{Place}
+use Rattle.path_basis.specs.Completing.{IsCompletion, HasGrown, IsSame}
 use Rattle.path_reduction.proofs.Deriving.{still_derived, derives_same, Lengthens-trans}
 
 all_members : {X : Type 0} (P : X → Type 0) (xs : List X) → ((x : X) → Contains xs x → P x) → All P xs
@@ -65,6 +67,10 @@ inserts_taken h old taken removed new after rule e made is = subst (λ xs. Inser
 pub front_lengthens : (mark : ℕ) (steps : List Step) → Lengthens (take mark steps) steps
 front_lengthens mark steps = record { more = drop mark steps; whole = sym (take-append-drop mark steps) }
 
+-- a front of what was lengthened is what was there
+pub front_again : (mark : ℕ) (old new cut : List Step) → mark ≡ length old → Lengthens old new → cut ≡ take mark new → cut ≡ old
+front_again mark old new cut e l is = is ∙ ap (λ n. take n new) e ∙ ap (take (length old)) l.whole ∙ take-append_seam old l.more
+
 -- what was made by a front is made with two more pieces behind it
 pub derived_behind : (h : Header) (mark : ℕ) (old middle new : List Step) (rules : List Rule) → Lengthens old middle → Lengthens middle new → IsDerivation h new → AreDerived h (take mark old) rules → AreDerived h new rules
 derived_behind h mark old middle new rules l m lawful = still_derived h (take mark old) new rules (Lengthens-trans (take mark old) old new (front_lengthens mark old) (Lengthens-trans old middle new l m)) lawful
@@ -90,3 +96,10 @@ completion_begins h rules removed steps few e f g =
       removed_derived = λ k d l. absurd (omega (arith, l));
       room = (let c = free_count-le h [] in omega (arith, c, few));
     })))
+
+-- ---- where nothing changed
+
+pub same_completion : (h : Header) (old old_removed : List Rule) (old_places : List Place) (old_steps : List Step) (new new_removed : List Rule) (new_places : List Place) (new_steps : List Step)
+    → IsSame old old_removed old_places new new_removed new_places → new_steps ≡ old_steps → IsCompletion h old old_removed old_steps → IsCompletion h new new_removed new_steps
+same_completion h old old_removed old_places old_steps new new_removed new_places new_steps same e completion =
+    subst (λ xs. IsCompletion h xs new_removed new_steps) (sym same.rules) (subst (λ xs. IsCompletion h old xs new_steps) (sym same.removed) (subst (IsCompletion h old old_removed) (sym e) completion))

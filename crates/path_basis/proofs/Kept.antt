@@ -3,23 +3,22 @@ use Rattle.std.proofs.Common.{ℕ, zero, suc, ◌≡◌, ◌<◌, ◌≤◌, ◌
 use Rattle.std.specs.Prelude.{Contains, All}
 use Rattle.std.proofs.lemmas.Bool.{cases_lt, cases_eq}
 use Rattle.std.proofs.Math.Seq.{get_or-append_seam}
-use Rattle.std.proofs.lemmas.List.{get_or_append_left, get_or_past, get_or_default, length-map, length_push, take_more, length-take-le, take-append-drop, get_or-map}
+use Rattle.std.proofs.lemmas.List.{get_or_append_left, get_or_past, get_or_default, length_push, take_more, length-take-le, take-append-drop}
 use Rattle.std.proofs.lemmas.List.Elements.{All-nil, All-cons, All-weaker, All-map}
 use Rattle.linear_algebra.specs.Field.{add, mul}
 use Rattle.quiver_paths.specs.declared.Path.{Path}
-use Rattle.quiver_paths.specs.PathOrder.{IsSmaller}
 use Rattle.quiver_paths.proofs.ListLemmas.{Contains-map}
 use Rattle.path_algebra.specs.declared.Header.{Header}
 use Rattle.path_algebra.specs.declared.rules.Rule.{Rule}
 use Rattle.path_algebra.specs.declared.rules.Step.{Step}
 use Rattle.path_algebra.specs.declared.rules.Step.TheVariants.{Relation, Left, Right, Add}
-use Rattle.path_algebra.specs.Rules.{rule_element, IsReducedRule, AreReducedRules}
+use Rattle.path_algebra.specs.Rules.{rule_element}
 use Rattle.path_algebra.specs.Derivations.{IsNumber, NamesEarlier, AreSteps, element_at, step_elements, step_element, arrow_times, times_arrow}
 use Rattle.path_algebra.specs.BasisClauses.{HasFactor}
 use Rattle.path_reduction.specs.Derived.{IsDerivation, Derives, AreDerived}
 use Rattle.path_reduction.proofs.Deriving.{element_at-append, element_at-last}
 use Rattle.path_basis.specs.Used.{named, HasNoUnusedStep}
-use Rattle.path_basis.specs.Pruning.{AreOrdered, IsMarked, AreMarked, new_number, renumbered, with_new_number, AreRenumbered, HasOldPlace, IsKept}
+use Rattle.path_basis.specs.Pruning.{AreOrdered, IsMarked, AreMarked, new_number, renumbered, with_new_number, HasOldPlace, IsKept}
 
 -- ---- what a step names
 
@@ -354,25 +353,3 @@ module _ (steps : List Step) (rules : List Rule) (marks : List Bool) (kept : Lis
               })
         ];
   }
-
--- ---- the rules
-
-pub renumbered_count : (old new : List Rule) → AreRenumbered old new → length new ≡ length old
-renumbered_count old new same = ap length same.whole ∙ length-map old (with_new_number same.numbers)
-
--- reduced rules with other steps are the reduced rules
-pub still_reduced : (h : Header) (old new : List Rule) → AreRenumbered old new → AreReducedRules h old → AreReducedRules h new
-still_reduced h old new same reduced =
-    let f = with_new_number same.numbers in
-    subst (AreReducedRules h) (sym same.whole) (record {
-      ascending = λ i j d l m.
-          let count = length-map old f in
-          subst (λ (x : Rule). IsSmaller x.tip (get_or (map f old) j d).tip) (sym (get_or-map f old i d d (omega (arith, l, m, count))))
-          (subst (λ (x : Rule). IsSmaller (get_or old i d).tip x.tip) (sym (get_or-map f old j d d (omega (arith, m, count)))) (reduced.ascending i j d l (omega (arith, m, count))));
-      each = All-map (IsReducedRule h) f old (All-weaker (IsReducedRule h) (λ (x : Rule). IsReducedRule h (f x)) (λ x r. record { minimal = r.minimal; tail = r.tail; normal = r.normal; congruent = r.congruent }) old reduced.each);
-      all = λ p m. subst (λ ps. Contains ps p) (tips f old (λ x. refl)) (reduced.all p m);
-    })
-  where
-    tips : (f : Rule → Rule) (rules : List Rule) → ((x : Rule) → x.tip ≡ (f x).tip) → map (λ (x : Rule). x.tip) rules ≡ map (λ (x : Rule). x.tip) (map f rules)
-    tips f [] e = refl
-    tips f (x ∷ rules) e = ap₂ (λ p ps. p ∷ ps) (e x) (tips f rules e)

@@ -10,3 +10,4 @@ pub mod NormalWords
 pub mod WorkedRules
 pub mod Marks
 pub mod Kept
+pub mod Renumbered

@@ -1,5 +1,5 @@
 -- The paths without a tip of the reduced rules are the normal words, and with the steps they meet the conditions on a basis.
-use Rattle.std.proofs.Common.{ℕ, ◌≡◌, ◌<◌, ◌≤◌, ◌+◌, inl, inr, List, [], ◌∷◌, ◌++◌, length, get_or, sym, ap, ◌∙◌, subst, arith, length-append}
+use Rattle.std.proofs.Common.{ℕ, ◌≡◌, ◌<◌, ◌≤◌, ◌+◌, ◌^◌, inl, inr, List, [], ◌∷◌, ◌++◌, length, get_or, sym, ap, ◌∙◌, subst, arith, length-append}
 use Rattle.std.specs.Prelude.{Contains, All}
 use Rattle.std.proofs.lemmas.Bool.{cases_eq}
 use Rattle.std.proofs.lemmas.List.{get_or_default}
@@ -26,7 +26,12 @@ use Rattle.path_algebra.proofs.IdealActs.{IsInIdeal-long}
 use Rattle.path_algebra.proofs.NormalFactors.{tip_between, cases_normal, minimal_factor}
 use Rattle.path_algebra.proofs.TipFactors.{found_tip, factor_found, no_tip_if}
 use Rattle.path_algebra.proofs.ClausesNecessary.{meets_clauses}
+use Rattle.path_algebra.proofs.ClausesSuffice.{are_sound, rules_are_reduced}
+use Rattle.path_reduction.specs.Gaps.{IsTidy, AreTidy}
 use Rattle.path_reduction.specs.Derived.{IsDerivation, Derives, AreDerived}
+use Rattle.path_basis.specs.declared.basis.Reduced.{Reduced}
+use Rattle.path_basis.specs.Used.{HasNoUnusedStep}
+use Rattle.path_basis.specs.Results.{IsResult}
 use Rattle.path_basis.specs.Sifting.{AreSifted}
 
 all_members : {X : Type 0} (P : X → Type 0) (xs : List X) → ((x : X) → Contains xs x → P x) → All P xs
@@ -106,16 +111,6 @@ module _ (h : Header) (rules : List Rule) (ok : IsAllowed h) (reduced : AreReduc
         normal_without p (record { path = is.0; short = is.1 }) (no_tip_if h rules p long_tips o.3);
   }
 
-  -- what is asked before the conditions
-  pub basis_claim : (paths words : List Path) (steps : List Step) → length paths ≤ 4096 → ListsPathsBelow h.quiver h.bound paths → AreSifted rules paths (length paths) words → IsDerivation h steps → IsBasisClaim h words steps rules
-  basis_claim paths words steps few listed s lawful = record {
-    few = (let f = s.few in omega (arith, f, few));
-    paths = all_members (IsPath h.quiver) words (λ p m. ((words_normal paths words listed s).only p m).short.path);
-    factors = lawful.factors;
-    tips = long_tips.paths;
-    tails = all_members (λ (rule : Rule). AreElementTerms h rule.tail.terms) rules (λ rule m. (reduced_rule rule m).tail);
-  }
-
   pub basis_meets : (paths words : List Path) (steps : List Step) → ListsPathsBelow h.quiver h.bound paths → AreSifted rules paths (length paths) words → IsDerivation h steps → AreDerived h steps rules → MeetsClauses h words steps rules
   basis_meets paths words steps listed s lawful derived = meets_clauses h ok words (words_normal paths words listed s) rules reduced steps
       (record {
@@ -132,11 +127,44 @@ no_first_fault h words steps rules fault.Reduced m f = f.2 m.reduced
 no_first_fault h words steps rules fault.Words m f = f.3 m.word
 no_first_fault h words steps rules fault.Action m f = f.4 m.action
 
--- the same of what is read
-pub read_claim : (h : Header) (rules read_rules : List Rule) (paths read_paths words read_words : List Path) (steps read_steps : List Step) → IsAllowed h → AreReducedRules h rules → length paths ≤ 4096
-    → ListsPathsBelow h.quiver h.bound paths → AreSifted read_rules read_paths (length read_paths) words → IsDerivation h steps → AreDerived h steps rules
-    → read_rules ≡ rules → read_paths ≡ paths → read_words ≡ words → read_steps ≡ steps → IsBasisClaim h read_words read_steps rules × MeetsClauses h read_words read_steps rules
-read_claim h rules read_rules paths read_paths words read_words steps read_steps ok reduced few listed s lawful derived e f g i =
-    let sifted : AreSifted rules paths (length paths) words = subst (λ xs. AreSifted xs paths (length paths) words) e (subst (λ ps. AreSifted read_rules ps (length ps) words) f s) in
-    subst (λ ws. IsBasisClaim h ws read_steps rules × MeetsClauses h ws read_steps rules) (sym g) (subst (λ ss. IsBasisClaim h words ss rules × MeetsClauses h words ss rules) (sym i)
-    (basis_claim h rules ok reduced paths words steps few listed sifted lawful, basis_meets h rules ok reduced paths words steps listed sifted lawful derived))
+-- ---- of what is read
+
+-- what is asked before the conditions, of rules that may have gaps
+pub read_claim : (h : Header) (rules read_rules : List Rule) (paths words read_words : List Path) (steps read_steps : List Step) → AreTidy h rules → length paths ≤ 4096 → ListsPathsBelow h.quiver h.bound paths
+    → AreSifted read_rules paths (length paths) words → IsDerivation h steps → read_rules ≡ rules → read_words ≡ words → read_steps ≡ steps → IsBasisClaim h read_words read_steps rules
+read_claim h rules read_rules paths words read_words steps read_steps tidy few listed s lawful e g i =
+    subst (λ ws. IsBasisClaim h ws read_steps rules) (sym g) (subst (λ ss. IsBasisClaim h words ss rules) (sym i) (record {
+      few = (let f = s.few in omega (arith, f, few));
+      paths = all_members (IsPath h.quiver) words (λ p m. let o = s.only p m in (listed.only p (o.0, o.1, o.2)).0);
+      factors = lawful.factors;
+      tips = All-weaker (IsTidy h) (λ (rule : Rule). IsPath h.quiver rule.tip) (λ rule t. t.path) rules tidy.each;
+      tails = All-weaker (IsTidy h) (λ (rule : Rule). AreElementTerms h rule.tail.terms) (λ rule t. t.tail) rules tidy.each;
+    }))
+
+pub read_meets : (h : Header) (rules read_rules : List Rule) (paths words read_words : List Path) (steps read_steps : List Step) → IsAllowed h → AreReducedRules h rules → ListsPathsBelow h.quiver h.bound paths
+    → AreSifted read_rules paths (length paths) words → IsDerivation h steps → AreDerived h steps rules → read_rules ≡ rules → read_words ≡ words → read_steps ≡ steps → MeetsClauses h read_words read_steps rules
+read_meets h rules read_rules paths words read_words steps read_steps ok reduced listed s lawful derived e g i =
+    subst (λ ws. MeetsClauses h ws read_steps rules) (sym g) (subst (λ ss. MeetsClauses h words ss rules) (sym i)
+    (basis_meets h rules ok reduced paths words steps listed (subst (λ xs. AreSifted xs paths (length paths) words) e s) lawful derived))
+
+-- what meets the conditions is the result
+pub result_is : (h : Header) (r : Reduced) (words : List Path) (steps read_steps : List Step) (rules read_rules : List Rule) → IsAllowed h → r.table.header ≡ h → r.table.words ≡ words → read_steps ≡ steps → read_rules ≡ rules
+    → r.steps ≡ steps → r.rules ≡ rules → IsBasisClaim h words read_steps read_rules → MeetsClauses h words read_steps read_rules → HasNoUnusedStep steps rules → length steps < 2 ^ 32 → length rules ≤ 4096 → IsResult h r
+result_is h r words steps read_steps rules read_rules ok top e f g i j claim holds used few_steps few_rules = record {
+  header = top;
+  rules = rules_are_reduced h r.table.words r.rules (are_sound h r.table.words r.steps r.rules ok is_claim is_met);
+  claim = is_claim;
+  holds = is_met;
+  used = subst (λ ss. HasNoUnusedStep ss r.rules) (sym i) (subst (HasNoUnusedStep steps) (sym j) used);
+  few_steps = (let n = ap length i in omega (arith, n, few_steps));
+  few_rules = (let n = ap length j in omega (arith, n, few_rules));
+}
+  where
+    moved : (P : List Path → List Step → List Rule → Type 0) → P words read_steps read_rules → P r.table.words r.steps r.rules
+    moved P p = subst (λ ws. P ws r.steps r.rules) (sym e) (subst (λ ss. P words ss r.rules) (f ∙ sym i) (subst (P words read_steps) (g ∙ sym j) p))
+
+    is_claim : IsBasisClaim h r.table.words r.steps r.rules
+    is_claim = moved (IsBasisClaim h) claim
+
+    is_met : MeetsClauses h r.table.words r.steps r.rules
+    is_met = moved (MeetsClauses h) holds

@@ -1,5 +1,5 @@
 -- The worked algebras of the tests are allowed, and their rules are tidy.
-use Rattle.std.proofs.Common.{ℕ, ◌≡◌, ◌<◌, ◌≤◌, inl, List, [], ◌∷◌, ◌++◌, length, get_or, refl, sym, ap, ◌∙◌, subst, arith}
+use Rattle.std.proofs.Common.{ℕ, ◌≡◌, ◌<◌, ◌≤◌, List, [], ◌∷◌, length, get_or, refl, sym, ap, ◌∙◌, subst, arith}
 use Rattle.std.specs.Prelude.{All, AllPairs, IsTrue}
 use Rattle.std.proofs.lemmas.List.Elements.{All-nil, All-cons, All-head, All-tail}
 use Rattle.linear_algebra.specs.Field.{Gf, order}
@@ -9,9 +9,10 @@ use Rattle.quiver_paths.specs.declared.Arrow.{Arrow}
 use Rattle.quiver_paths.specs.Quiver.{vertex_count, arrow_count, source, target}
 use Rattle.quiver_paths.specs.Path.{IsPath, Leads, path_length}
 use Rattle.quiver_paths.specs.Name.{IsName, is_name_byte}
-use Rattle.quiver_paths.specs.PathOrder.{IsSmaller, ComesBefore}
-use Rattle.quiver_paths.proofs.QuiverLemmas.{source_is, target_is, EndsBelow, IsQuiver-from_lists}
-use Rattle.quiver_paths.proofs.PathOrderLemmas.{IsSmaller-from_shorter, smaller_from_comes_before}
+use Rattle.quiver_paths.specs.PathOrder.{IsSmaller}
+use Rattle.quiver_paths.proofs.QuiverLemmas.{source_is, target_is, IsQuiver-from_lists}
+use Rattle.quiver_paths.proofs.ListLemmas.{AllPairs-nil}
+use Rattle.quiver_paths.proofs.PathOrderLemmas.{IsSmaller-from_shorter}
 use Rattle.path_algebra.specs.declared.Term.{Term}
 use Rattle.path_algebra.specs.declared.Relation.{Relation}
 use Rattle.path_algebra.specs.declared.Header.{Header}
@@ -20,7 +21,7 @@ use Rattle.path_algebra.specs.Allowed.{IsAllowed, IsArrowName, IsRelation, IsTer
 use Rattle.path_algebra.specs.Rules.{AreElementTerms}
 use Rattle.path_algebra.proofs.TermLists.{Contains-one, AreElementTerms-nil, AreElementTerms-one}
 use Rattle.path_reduction.specs.Gaps.{IsTidy, AreTidy}
-use Rattle.path_basis.specs.Worked.{along, loop_arrow, term, one_loop, two_loops, rules_of, IsOneLoop, IsTwoLoops}
+use Rattle.path_basis.specs.Worked.{along, term, one_vertex, x_loop, y_loop, sum_is_zero, rules_of, IsOneLoop}
 
 one : {X : Type 0} (P : X → Type 0) (x : X) → P x → All P (x ∷ [])
 one P x p = All-cons P x [] p (All-nil P)
@@ -77,135 +78,137 @@ x_name = record { name = letter_name 120 refl; letter = refl }
 y_name : IsArrowName (121 ∷ [])
 y_name = record { name = letter_name 121 refl; letter = refl }
 
-abbrev x_loop : Arrow
-x_loop = loop_arrow (120 ∷ [])
+-- ---- one vertex with loops
 
-abbrev y_loop : Arrow
-y_loop = loop_arrow (121 ∷ [])
+record AreLoops (loops : List Arrow) : Type 0 where
+  few : length loops ≤ 2
+  names : All (λ (a : Arrow). IsArrowName a.name) loops
+  differ : AllPairs (λ (a b : Arrow). a.name ≡ b.name → ⊥) loops
+  from : All (λ (a : Arrow). a.from ≡ 0) loops
+  to : All (λ (a : Arrow). a.to ≡ 0) loops
 
--- ---- one loop
+no_loops : AreLoops []
+no_loops = record {
+  few = omega arith;
+  names = All-nil (λ (a : Arrow). IsArrowName a.name);
+  differ = AllPairs-nil (λ (a b : Arrow). a.name ≡ b.name → ⊥);
+  from = All-nil (λ (a : Arrow). a.from ≡ 0);
+  to = All-nil (λ (a : Arrow). a.to ≡ 0);
+}
 
-module _ (f : Gf) (e : order f ≡ 3) where
-  abbrev one_quiver : Quiver
-  one_quiver = (one_loop f).quiver
+one_loops : AreLoops (x_loop ∷ [])
+one_loops = record {
+  few = omega arith;
+  names = one (λ (a : Arrow). IsArrowName a.name) x_loop x_name;
+  differ = single (λ (a b : Arrow). a.name ≡ b.name → ⊥) x_loop;
+  from = one (λ (a : Arrow). a.from ≡ 0) x_loop refl;
+  to = one (λ (a : Arrow). a.to ≡ 0) x_loop refl;
+}
 
-  one_has : HasLoops one_quiver
-  one_has = record {
+both_loops : AreLoops (x_loop ∷ y_loop ∷ [])
+both_loops = record {
+  few = omega arith;
+  names = two (λ (a : Arrow). IsArrowName a.name) x_loop y_loop x_name y_name;
+  differ = pair (λ (a b : Arrow). a.name ≡ b.name → ⊥) x_loop y_loop (λ i. omega (arith, ap (λ xs. get_or xs 0 0) i));
+  from = two (λ (a : Arrow). a.from ≡ 0) x_loop y_loop refl refl;
+  to = two (λ (a : Arrow). a.to ≡ 0) x_loop y_loop refl refl;
+}
+
+module _ (f : Gf) (loops : List Arrow) (bound : ℕ) (are : AreLoops loops) where
+  abbrev quiver : Quiver
+  quiver = record { vertices = (118 ∷ []) ∷ []; arrows = loops }
+
+  has_loops : HasLoops quiver
+  has_loops = record {
     vertex = omega arith;
-    loops = λ a l. (source_is one_quiver a x_loop l ∙ one (λ (x : Arrow). x.from ≡ 0) x_loop refl a x_loop l, target_is one_quiver a x_loop l ∙ one (λ (x : Arrow). x.to ≡ 0) x_loop refl a x_loop l);
+    loops = λ a l. let d : Arrow = x_loop in (source_is quiver a d l ∙ are.from a d l, target_is quiver a d l ∙ are.to a d l);
   }
 
-  x_two : IsPath one_quiver (along (0 ∷ 0 ∷ []))
-  x_two = along_path one_quiver one_has (0 ∷ 0 ∷ []) (two (λ a. a < arrow_count one_quiver) 0 0 (omega arith) (omega arith))
+  allowed : (relations : List Relation) → 2 ≤ bound → bound ≤ 32 → length relations ≤ 1 → All (IsRelation (one_vertex f loops bound relations)) relations → IsAllowed (one_vertex f loops bound relations)
+  allowed relations low high few hold = record {
+    quiver = IsQuiver-from_lists ((118 ∷ []) ∷ []) loops (omega arith) (omega arith) (let l = are.few in omega (arith, l)) (λ k d l. let e = are.from k d l in let g = are.to k d l in (omega (arith, e), omega (arith, g)));
+    vertex_names = one IsName (118 ∷ []) (letter_name 118 refl);
+    arrow_names = are.names;
+    vertices_differ = single (λ (a b : List ℕ). a ≡ b → ⊥) (118 ∷ []);
+    arrows_differ = are.differ;
+    bound_from = low;
+    bound_to = high;
+    few_relations = omega (arith, few);
+    relations = hold;
+  }
 
-  x_three : IsPath one_quiver (along (0 ∷ 0 ∷ 0 ∷ []))
-  x_three = along_path one_quiver one_has (0 ∷ 0 ∷ 0 ∷ []) (All-cons (λ a. a < arrow_count one_quiver) 0 (0 ∷ 0 ∷ []) (omega arith) (two (λ a. a < arrow_count one_quiver) 0 0 (omega arith) (omega arith)))
+-- ---- the algebras
 
-  one_relation : IsRelation (one_loop f) (record { terms = term 1 (0 ∷ 0 ∷ []) ∷ term 1 (0 ∷ 0 ∷ 0 ∷ []) ∷ [] })
+pub point_allowed : (h : Header) → h ≡ one_vertex h.field [] 2 [] → IsAllowed h
+point_allowed h e = subst IsAllowed (sym e) (allowed h.field [] 2 no_loops [] (omega arith) (omega arith) (omega arith) (All-nil (IsRelation (one_vertex h.field [] 2 []))))
+
+pub free_allowed : (h : Header) → h ≡ one_vertex h.field (x_loop ∷ []) 3 [] → IsAllowed h
+free_allowed h e =
+    subst IsAllowed (sym e) (allowed h.field (x_loop ∷ []) 3 one_loops [] (omega arith) (omega arith) (omega arith) (All-nil (IsRelation (one_vertex h.field (x_loop ∷ []) 3 []))))
+
+module _ (f : Gf) (e : order f ≡ 3) where
+  abbrev one_loop : Header
+  one_loop = one_vertex f (x_loop ∷ []) 4 (sum_is_zero (0 ∷ 0 ∷ []) (0 ∷ 0 ∷ 0 ∷ []) ∷ [])
+
+  below : 0 < arrow_count one_loop.quiver
+  below = omega arith
+
+  x_two : IsPath one_loop.quiver (along (0 ∷ 0 ∷ []))
+  x_two = along_path one_loop.quiver (has_loops f (x_loop ∷ []) 4 one_loops) (0 ∷ 0 ∷ []) (two (λ a. a < arrow_count one_loop.quiver) 0 0 below below)
+
+  x_three : IsPath one_loop.quiver (along (0 ∷ 0 ∷ 0 ∷ []))
+  x_three = along_path one_loop.quiver (has_loops f (x_loop ∷ []) 4 one_loops) (0 ∷ 0 ∷ 0 ∷ []) (All-cons (λ a. a < arrow_count one_loop.quiver) 0 (0 ∷ 0 ∷ []) below (two (λ a. a < arrow_count one_loop.quiver) 0 0 below below))
+
+  one_relation : IsRelation one_loop (sum_is_zero (0 ∷ 0 ∷ []) (0 ∷ 0 ∷ 0 ∷ []))
   one_relation = record {
     some = omega arith;
     few = omega arith;
-    terms = two (IsTerm (one_loop f)) (term 1 (0 ∷ 0 ∷ [])) (term 1 (0 ∷ 0 ∷ 0 ∷ []))
+    terms = two (IsTerm one_loop) (term 1 (0 ∷ 0 ∷ [])) (term 1 (0 ∷ 0 ∷ 0 ∷ []))
         (record { nonzero = omega arith; small = omega (arith, e); path = x_two; not_short = omega arith; not_long = omega arith })
         (record { nonzero = omega arith; small = omega (arith, e); path = x_three; not_short = omega arith; not_long = omega arith });
     parallel = pair (λ (a b : Term). IsParallel a.path b.path) (term 1 (0 ∷ 0 ∷ [])) (term 1 (0 ∷ 0 ∷ 0 ∷ [])) (record { starts = refl; ends = refl });
     different = pair (λ (a b : Term). a.path ≡ b.path → ⊥) (term 1 (0 ∷ 0 ∷ [])) (term 1 (0 ∷ 0 ∷ 0 ∷ [])) (λ i. omega (arith, ap path_length i));
   }
 
-  one_allowed : IsAllowed (one_loop f)
-  one_allowed = record {
-    quiver = IsQuiver-from_lists ((118 ∷ []) ∷ []) (x_loop ∷ []) (omega arith) (omega arith) (omega arith) (one (EndsBelow 1) x_loop (omega arith, omega arith));
-    vertex_names = one IsName (118 ∷ []) (letter_name 118 refl);
-    arrow_names = one (λ (a : Arrow). IsArrowName a.name) x_loop x_name;
-    vertices_differ = single (λ (a b : List ℕ). a ≡ b → ⊥) (118 ∷ []);
-    arrows_differ = single (λ (a b : Arrow). a.name ≡ b.name → ⊥) x_loop;
-    bound_from = omega arith;
-    bound_to = omega arith;
-    few_relations = omega arith;
-    relations = one (IsRelation (one_loop f)) _ one_relation;
-  }
-
-  pub worked_one : IsOneLoop (one_loop f)
+  worked_one : IsOneLoop one_loop
   worked_one = record {
-    allowed = one_allowed;
-    cube = one_tidy (one_loop f) (0 ∷ 0 ∷ 0 ∷ []) (term 2 (0 ∷ 0 ∷ []) ∷ []) x_three (omega arith) (omega arith)
-        (AreElementTerms-one (one_loop f) (term 2 (0 ∷ 0 ∷ [])) (record { nonzero = omega arith; small = omega (arith, e); short = record { path = x_two; short = omega arith } }))
+    allowed = allowed f (x_loop ∷ []) 4 one_loops one_loop.relations (omega arith) (omega arith) (omega arith) (one (IsRelation one_loop) _ one_relation);
+    cube = one_tidy one_loop (0 ∷ 0 ∷ 0 ∷ []) (term 2 (0 ∷ 0 ∷ []) ∷ []) x_three (omega arith) (omega arith)
+        (AreElementTerms-one one_loop (term 2 (0 ∷ 0 ∷ [])) (record { nonzero = omega arith; small = omega (arith, e); short = record { path = x_two; short = omega arith } }))
         (one (λ (a : Term). IsParallel a.path (along (0 ∷ 0 ∷ 0 ∷ []))) (term 2 (0 ∷ 0 ∷ [])) (record { starts = refl; ends = refl }))
         (one (λ (a : Term). IsSmaller a.path (along (0 ∷ 0 ∷ 0 ∷ []))) (term 2 (0 ∷ 0 ∷ [])) (IsSmaller-from_shorter (along (0 ∷ 0 ∷ [])) (along (0 ∷ 0 ∷ 0 ∷ [])) (omega arith)));
-    square = one_tidy (one_loop f) (0 ∷ 0 ∷ []) [] x_two (omega arith) (omega arith) (AreElementTerms-nil (one_loop f)) (All-nil (λ (a : Term). IsParallel a.path (along (0 ∷ 0 ∷ []))))
+    square = one_tidy one_loop (0 ∷ 0 ∷ []) [] x_two (omega arith) (omega arith) (AreElementTerms-nil one_loop) (All-nil (λ (a : Term). IsParallel a.path (along (0 ∷ 0 ∷ []))))
         (All-nil (λ (a : Term). IsSmaller a.path (along (0 ∷ 0 ∷ []))));
   }
 
--- ---- two loops
+pub one_loop_is : (h : Header) → order h.field ≡ 3 → h ≡ one_vertex h.field (x_loop ∷ []) 4 (sum_is_zero (0 ∷ 0 ∷ []) (0 ∷ 0 ∷ 0 ∷ []) ∷ []) → IsOneLoop h
+one_loop_is h f e = subst IsOneLoop (sym e) (worked_one h.field f)
 
-module _ (f : Gf) (e : order f ≡ 2) where
-  abbrev two_quiver : Quiver
-  two_quiver = (two_loops f).quiver
+module _ (f : Gf) (bound : ℕ) (e : order f ≡ 2) where
+  abbrev two_loops : Header
+  two_loops = one_vertex f (x_loop ∷ y_loop ∷ []) bound (sum_is_zero (1 ∷ 1 ∷ []) (0 ∷ 0 ∷ []) ∷ [])
 
-  two_has : HasLoops two_quiver
-  two_has = record {
-    vertex = omega arith;
-    loops = λ a l. (
-      source_is two_quiver a x_loop l ∙ two (λ (x : Arrow). x.from ≡ 0) x_loop y_loop refl refl a x_loop l,
-      target_is two_quiver a x_loop l ∙ two (λ (x : Arrow). x.to ≡ 0) x_loop y_loop refl refl a x_loop l,
-    );
-  }
+  square : (a : ℕ) → a < arrow_count two_loops.quiver → IsPath two_loops.quiver (along (a ∷ a ∷ []))
+  square a l = along_path two_loops.quiver (has_loops f (x_loop ∷ y_loop ∷ []) bound both_loops) (a ∷ a ∷ []) (two (λ b. b < arrow_count two_loops.quiver) a a l l)
 
-  x_square : IsPath two_quiver (along (0 ∷ 0 ∷ []))
-  x_square = along_path two_quiver two_has (0 ∷ 0 ∷ []) (two (λ a. a < arrow_count two_quiver) 0 0 (omega arith) (omega arith))
-
-  y_square : IsPath two_quiver (along (1 ∷ 1 ∷ []))
-  y_square = along_path two_quiver two_has (1 ∷ 1 ∷ []) (two (λ a. a < arrow_count two_quiver) 1 1 (omega arith) (omega arith))
-
-  two_relation : IsRelation (two_loops f) (record { terms = term 1 (1 ∷ 1 ∷ []) ∷ term 1 (0 ∷ 0 ∷ []) ∷ [] })
+  two_relation : IsRelation two_loops (sum_is_zero (1 ∷ 1 ∷ []) (0 ∷ 0 ∷ []))
   two_relation = record {
     some = omega arith;
     few = omega arith;
-    terms = two (IsTerm (two_loops f)) (term 1 (1 ∷ 1 ∷ [])) (term 1 (0 ∷ 0 ∷ []))
-        (record { nonzero = omega arith; small = omega (arith, e); path = y_square; not_short = omega arith; not_long = omega arith })
-        (record { nonzero = omega arith; small = omega (arith, e); path = x_square; not_short = omega arith; not_long = omega arith });
+    terms = two (IsTerm two_loops) (term 1 (1 ∷ 1 ∷ [])) (term 1 (0 ∷ 0 ∷ []))
+        (record { nonzero = omega arith; small = omega (arith, e); path = square 1 (omega arith); not_short = omega arith; not_long = omega arith })
+        (record { nonzero = omega arith; small = omega (arith, e); path = square 0 (omega arith); not_short = omega arith; not_long = omega arith });
     parallel = pair (λ (a b : Term). IsParallel a.path b.path) (term 1 (1 ∷ 1 ∷ [])) (term 1 (0 ∷ 0 ∷ [])) (record { starts = refl; ends = refl });
     different = pair (λ (a b : Term). a.path ≡ b.path → ⊥) (term 1 (1 ∷ 1 ∷ [])) (term 1 (0 ∷ 0 ∷ [])) (λ i. omega (arith, ap (λ (p : Path). get_or p.arrows 0 0) i));
   }
 
-  two_allowed : IsAllowed (two_loops f)
-  two_allowed = record {
-    quiver = IsQuiver-from_lists ((118 ∷ []) ∷ []) (x_loop ∷ y_loop ∷ []) (omega arith) (omega arith) (omega arith) (two (EndsBelow 1) x_loop y_loop (omega arith, omega arith) (omega arith, omega arith));
-    vertex_names = one IsName (118 ∷ []) (letter_name 118 refl);
-    arrow_names = two (λ (a : Arrow). IsArrowName a.name) x_loop y_loop x_name y_name;
-    vertices_differ = single (λ (a b : List ℕ). a ≡ b → ⊥) (118 ∷ []);
-    arrows_differ = pair (λ (a b : Arrow). a.name ≡ b.name → ⊥) x_loop y_loop (λ i. omega (arith, ap (λ xs. get_or xs 0 0) i));
-    bound_from = omega arith;
-    bound_to = omega arith;
-    few_relations = omega arith;
-    relations = one (IsRelation (two_loops f)) _ two_relation;
-  }
+  two_allowed : 2 ≤ bound → bound ≤ 32 → IsAllowed two_loops
+  two_allowed low high = allowed f (x_loop ∷ y_loop ∷ []) bound both_loops two_loops.relations low high (omega arith) (one (IsRelation two_loops) _ two_relation)
 
-  pub worked_two : IsTwoLoops (two_loops f)
-  worked_two = record {
-    allowed = two_allowed;
-    square = one_tidy (two_loops f) (1 ∷ 1 ∷ []) (term 1 (0 ∷ 0 ∷ []) ∷ []) y_square (omega arith) (omega arith)
-        (AreElementTerms-one (two_loops f) (term 1 (0 ∷ 0 ∷ [])) (record { nonzero = omega arith; small = omega (arith, e); short = record { path = x_square; short = omega arith } }))
-        (one (λ (a : Term). IsParallel a.path (along (1 ∷ 1 ∷ []))) (term 1 (0 ∷ 0 ∷ [])) (record { starts = refl; ends = refl }))
-        (one (λ (a : Term). IsSmaller a.path (along (1 ∷ 1 ∷ []))) (term 1 (0 ∷ 0 ∷ []))
-        (smaller_from_comes_before (along (0 ∷ 0 ∷ [])) (along (1 ∷ 1 ∷ [])) (ComesBefore.by_arrows refl (inl (omega arith)))));
-  }
+pub two_loops_allowed : (h : Header) (bound : ℕ) → order h.field ≡ 2 → 2 ≤ bound → bound ≤ 32 → h ≡ one_vertex h.field (x_loop ∷ y_loop ∷ []) bound (sum_is_zero (1 ∷ 1 ∷ []) (0 ∷ 0 ∷ []) ∷ []) → IsAllowed h
+two_loops_allowed h bound f low high e = subst IsAllowed (sym e) (two_allowed h.field bound f low high)
 
 -- ---- headers as they are built
 
-pub built_one : (f : Gf) (vertices : List (List ℕ)) (no_arrows arrows : List Arrow) (x : Arrow) (no_relations relations : List Relation) (r : Relation) → order f ≡ 3 → vertices ≡ (118 ∷ []) ∷ [] → no_arrows ≡ [] → x ≡ x_loop
-    → arrows ≡ no_arrows ++ x ∷ [] → no_relations ≡ [] → r.terms ≡ term 1 (0 ∷ 0 ∷ []) ∷ term 1 (0 ∷ 0 ∷ 0 ∷ []) ∷ [] → relations ≡ no_relations ++ r ∷ []
-    → IsOneLoop (record { field = f; quiver = record { vertices = vertices; arrows = arrows }; bound = 4; relations = relations })
-built_one f vertices no_arrows arrows x no_relations relations r e v na ax pushed nr rt made =
-    let all_arrows : arrows ≡ x_loop ∷ [] = pushed ∙ (λ i. na i ++ ax i ∷ []) in
-    let all_relations : relations ≡ (one_loop f).relations = made ∙ (λ i. nr i ++ record { terms = rt i } ∷ []) in
-    subst IsOneLoop (λ i. record { field = f; quiver = record { vertices = sym v i; arrows = sym all_arrows i }; bound = 4; relations = sym all_relations i }) (worked_one f e)
-
-pub built_two : (f : Gf) (vertices : List (List ℕ)) (no_arrows some arrows : List Arrow) (x y : Arrow) (no_relations relations : List Relation) (r : Relation) → order f ≡ 2 → vertices ≡ (118 ∷ []) ∷ [] → no_arrows ≡ [] → x ≡ x_loop
-    → some ≡ no_arrows ++ x ∷ [] → y ≡ y_loop → arrows ≡ some ++ y ∷ [] → no_relations ≡ [] → r.terms ≡ term 1 (1 ∷ 1 ∷ []) ∷ term 1 (0 ∷ 0 ∷ []) ∷ [] → relations ≡ no_relations ++ r ∷ []
-    → IsTwoLoops (record { field = f; quiver = record { vertices = vertices; arrows = arrows }; bound = 4; relations = relations })
-built_two f vertices no_arrows some arrows x y no_relations relations r e v na ax pushed ay pushed_more nr rt made =
-    let first : some ≡ x_loop ∷ [] = pushed ∙ (λ i. na i ++ ax i ∷ []) in
-    let all_arrows : arrows ≡ x_loop ∷ y_loop ∷ [] = pushed_more ∙ (λ i. first i ++ ay i ∷ []) in
-    let all_relations : relations ≡ (two_loops f).relations = made ∙ (λ i. nr i ++ record { terms = rt i } ∷ []) in
-    subst IsTwoLoops (λ i. record { field = f; quiver = record { vertices = sym v i; arrows = sym all_arrows i }; bound = 4; relations = sym all_relations i }) (worked_two f e)
+pub built : (h : Header) (f : Gf) (loops some : List Arrow) (bound : ℕ) (relations more : List Relation) → h ≡ one_vertex f loops bound relations → loops ≡ some → relations ≡ more → h ≡ one_vertex h.field some bound more
+built h f loops some bound relations more e g i = e ∙ (λ k. one_vertex (sym (ap (λ (x : Header). x.field) e) k) (g k) bound (i k))

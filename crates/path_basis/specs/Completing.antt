@@ -43,7 +43,11 @@ pub record IsSame (old old_removed : List Rule) (old_places : List Place) (new n
 abbrev pub RelationReduces : Header → List Rule → Relation → Type 0
 RelationReduces h rules relation = ForReductions h rules (λ becomes. (r : Path) → reduced_terms h becomes relation.terms r ≡ 0)
 
--- each relation does, and the rules have no gap
+-- each relation does
+abbrev pub RelationsReduce : Header → List Rule → Type 0
+RelationsReduce h rules = (relation : Relation) → Contains h.relations relation → RelationReduces h rules relation
+
+-- and the rules have no gap
 pub record IsClosed (h : Header) (rules : List Rule) : Type 0 where
-  pub relations : (relation : Relation) → Contains h.relations relation → RelationReduces h rules relation
+  pub relations : RelationsReduce h rules
   pub no_gap : ForReductions h rules (HasNoGap h rules)

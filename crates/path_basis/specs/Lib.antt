@@ -6,3 +6,4 @@ pub mod Sifting
 pub mod Worked
 pub mod Used
 pub mod Pruning
+pub mod Results

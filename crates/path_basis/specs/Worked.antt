@@ -4,6 +4,7 @@ use Rattle.linear_algebra.specs.Field.{Gf}
 use Rattle.quiver_paths.specs.declared.Path.{Path}
 use Rattle.quiver_paths.specs.declared.Arrow.{Arrow}
 use Rattle.path_algebra.specs.declared.Term.{Term}
+use Rattle.path_algebra.specs.declared.Relation.{Relation}
 use Rattle.path_algebra.specs.declared.Header.{Header}
 use Rattle.path_algebra.specs.declared.rules.Rule.{Rule}
 use Rattle.path_algebra.specs.Allowed.{IsAllowed}
@@ -21,35 +22,32 @@ loop_arrow name = record { name = name; from = 0; to = 0 }
 abbrev pub term : ℕ → List ℕ → Term
 term coef arrows = record { coef = coef; path = along arrows }
 
--- vertex v and loop x, with x·x + x·x·x = 0 and x·x·x·x = 0
-abbrev pub one_loop : Gf → Header
-one_loop f = record {
+-- one vertex v with these loops
+abbrev pub one_vertex : Gf → List Arrow → ℕ → List Relation → Header
+one_vertex f loops bound relations = record {
   field = f;
-  quiver = record { vertices = (118 ∷ []) ∷ []; arrows = loop_arrow (120 ∷ []) ∷ [] };
-  bound = 4;
-  relations = record { terms = term 1 (0 ∷ 0 ∷ []) ∷ term 1 (0 ∷ 0 ∷ 0 ∷ []) ∷ [] } ∷ [];
+  quiver = record { vertices = (118 ∷ []) ∷ []; arrows = loops };
+  bound = bound;
+  relations = relations;
 }
 
--- vertex v and loops x and y, with y·y + x·x = 0, and no paths of four loops
-abbrev pub two_loops : Gf → Header
-two_loops f = record {
-  field = f;
-  quiver = record { vertices = (118 ∷ []) ∷ []; arrows = loop_arrow (120 ∷ []) ∷ loop_arrow (121 ∷ []) ∷ [] };
-  bound = 4;
-  relations = record { terms = term 1 (1 ∷ 1 ∷ []) ∷ term 1 (0 ∷ 0 ∷ []) ∷ [] } ∷ [];
-}
+-- the loops x and y
+abbrev pub x_loop : Arrow
+x_loop = loop_arrow (120 ∷ [])
+
+abbrev pub y_loop : Arrow
+y_loop = loop_arrow (121 ∷ [])
+
+-- the sum of two paths is zero
+abbrev pub sum_is_zero : List ℕ → List ℕ → Relation
+sum_is_zero first second = record { terms = term 1 first ∷ term 1 second ∷ [] }
 
 -- the one rule that takes these loops to this tail
 abbrev pub rules_of : List ℕ → List Term → List Rule
 rules_of tip tail = record { tip = along tip; tail = record { terms = tail }; step = 1 } ∷ []
 
--- the first algebra, and two rules
+-- one loop, paths of four loops being zero, and two rules
 pub record IsOneLoop (h : Header) : Type 0 where
   pub allowed : IsAllowed h
   pub cube : AreTidy h (rules_of (0 ∷ 0 ∷ 0 ∷ []) (term 2 (0 ∷ 0 ∷ []) ∷ []))
   pub square : AreTidy h (rules_of (0 ∷ 0 ∷ []) [])
-
--- the second, and a rule
-pub record IsTwoLoops (h : Header) : Type 0 where
-  pub allowed : IsAllowed h
-  pub square : AreTidy h (rules_of (1 ∷ 1 ∷ []) (term 1 (0 ∷ 0 ∷ []) ∷ []))

@@ -1,17 +1,20 @@
 //! The reduced rules of an ideal, and the table of the quotient.
-ghost use Rattle.std.specs.Prelude.{ℕ, ◌≡◌, ◌<◌, ◌≤◌, ◌+◌, ◌^◌, List, length, slice_index_or, IfOk, IfErr, OnOk};
+ghost use Rattle.std.specs.Prelude.{ℕ, ◌≡◌, ◌<◌, ◌≤◌, ◌+◌, ◌^◌, List, length, slice_index_or, IfOk, IfErr, IfSome, IfNone, OnOk};
 ghost use Rattle.quiver_paths.specs.declared.PathError.TheVariants.{PathLimit, NoMemory};
 ghost use Rattle.quiver_paths.specs.declared.Path.{Path};
-ghost use Rattle.quiver_paths.specs.PathList.{path_count, saturated};
+ghost use Rattle.quiver_paths.specs.PathList.{path_count, saturated, ListsPathsBelow};
 ghost use Rattle.path_algebra.specs.Allowed.{IsAllowed};
 ghost use Rattle.path_algebra.specs.Rules.{AreReducedRules};
 ghost use Rattle.path_algebra.specs.Occurring.{TipsAscend};
 ghost use Rattle.path_algebra.specs.BasisClauses.{IsBasisClaim, MeetsClauses};
+ghost use Rattle.path_reduction.specs.Gaps.{AreTidy};
 ghost use Rattle.path_reduction.specs.Derived.{IsDerivation, AreDerived};
+ghost use Rattle.path_basis.specs.Completing.{IsCompletion, IsSame, IsClosed};
 ghost use Rattle.path_basis.specs.Sifting.{AreSifted};
 ghost use Rattle.path_basis.specs.Used.{HasNoUnusedStep};
+ghost use Rattle.path_basis.specs.Results.{IsResult};
 
-use crate::completion::complete;
+use crate::completion::{Completion, complete, from_relations, settle_first_gap};
 use crate::pruning::drop_unused_steps;
 use crate::tails::reduce_tails;
 use alg_table::{CheckBasisError, Table, check_basis};
@@ -46,56 +49,83 @@ pub fn reduce_basis(alloc: Global, header: &Header) -> Result<Reduced, PathError
     ensures memory { path_count header.now.quiver header.now.bound ≤ 4096 → IfErr result (λ e. e ≡ NoMemory) }
 {
     let paths = paths_below(alloc, &header.quiver, header.bound, 4096)?;
-    let (rules, steps) = reduced_rules(alloc, header)?;
-    let words = words_among(alloc, &rules, &paths)?;
-    let table = table_of(alloc, header, &words, &steps, &rules)?;
-    Ok(Reduced {
-        table,
-        steps: Seq::from_vec(steps),
-        rules: Seq::from_vec(rules),
-    })
+    let reduced = complete_basis(alloc, header, &paths)?;
+    Ok(reduced)
 }
 
-/// The reduced rules, and the steps that derive them, of which none is unused.
-fn reduced_rules(alloc: Global, header: &Header) -> Result<(Vec<Rule>, Vec<Step>), AllocError>
+/// Completes the relations until what comes of them meets the conditions on a basis.
+fn complete_basis(alloc: Global, header: &Header, paths: &[Path]) -> Result<Reduced, AllocError>
     requires allowed { IsAllowed header.now }
     requires few { path_count header.now.quiver header.now.bound ≤ 4096 }
-    ensures rules { IfOk result (λ r. AreReducedRules header.now r.0.items) }
+    requires paths { ListsPathsBelow header.now.quiver header.now.bound paths.now }
+    requires few_paths { length paths.now ≤ 4096 }
+    ensures { IfOk result (IsResult header.now) }
+{
+    let mut state = from_relations(alloc, header)?;
+    'gaps: loop {
+        complete(alloc, header, &mut state)?;
+        if let Some(reduced) = basis_if_holds(alloc, header, &mut state, paths)? {
+            return Ok(reduced);
+        }
+        settle_first_gap(alloc, header, &mut state)?;
+    }
+}
+
+/// What the rules give once their tails are reduced, where that meets the conditions on a basis; it does where the rules have no gap.
+fn basis_if_holds(
+    alloc: Global,
+    header: &Header,
+    state: &mut Completion,
+    paths: &[Path],
+) -> Result<Option<Reduced>, AllocError>
+    requires allowed { IsAllowed header.now }
+    requires few { path_count header.now.quiver header.now.bound ≤ 4096 }
+    requires completion { IsCompletion header.now state.old.rules.items state.old.removed.items state.old.steps.items }
+    requires paths { ListsPathsBelow header.now.quiver header.now.bound paths.now }
+    requires few_paths { length paths.now ≤ 4096 }
+    ensures same { OnOk result (IsSame state.old.rules.items state.old.removed.items state.old.places.items state.new.rules.items state.new.removed.items state.new.places.items) }
+    ensures steps { OnOk result (state.new.steps.items ≡ state.old.steps.items) }
+    ensures holds { IfOk result (λ found. IfSome found (IsResult header.now)) }
+    ensures gaps { IfOk result (λ found. IfNone found (IsClosed header.now state.old.rules.items → ⊥)) }
+{
+    let (rules, steps) = reduced_rules(alloc, header, state)?;
+    let words = words_among(alloc, &rules, paths)?;
+    match check_basis(alloc, header, &words, &steps, &rules) {
+        Ok(table) => Ok(Some(Reduced {
+            table,
+            steps: Seq::from_vec(steps),
+            rules: Seq::from_vec(rules),
+        })),
+        Err(CheckBasisError::Fault(_)) => Ok(None),
+        Err(CheckBasisError::NoMemory) => Err(AllocError),
+    }
+}
+
+/// The rules with reduced tails, which are the reduced rules where the rules have no gap, and the steps that derive them, of which none is
+/// unused.
+fn reduced_rules(
+    alloc: Global,
+    header: &Header,
+    state: &mut Completion,
+) -> Result<(Vec<Rule>, Vec<Step>), AllocError>
+    requires allowed { IsAllowed header.now }
+    requires few { path_count header.now.quiver header.now.bound ≤ 4096 }
+    requires completion { IsCompletion header.now state.old.rules.items state.old.removed.items state.old.steps.items }
+    ensures same { OnOk result (IsSame state.old.rules.items state.old.removed.items state.old.places.items state.new.rules.items state.new.removed.items state.new.places.items) }
+    ensures steps { OnOk result (state.new.steps.items ≡ state.old.steps.items) }
+    ensures tidy { IfOk result (λ r. AreTidy header.now r.0.items) }
+    ensures closed { IfOk result (λ r. IsClosed header.now state.old.rules.items → AreReducedRules header.now r.0.items) }
     ensures lawful { IfOk result (λ r. IsDerivation header.now r.1.items) }
     ensures derived { IfOk result (λ r. AreDerived header.now r.1.items r.0.items) }
     ensures used { IfOk result (λ r. HasNoUnusedStep r.1.items r.0.items) }
     ensures few_rules { IfOk result (λ r. length r.0.items ≤ 4096) }
     ensures few_steps { IfOk result (λ r. length r.1.items < 2 ^ 32) }
 {
-    let completion = complete(alloc, header)?;
-    let mut steps = completion.steps;
-    let reduced = reduce_tails(alloc, header, &completion.rules, &mut steps)?;
-    let (rules, steps) = drop_unused_steps(alloc, reduced, &steps)?;
+    let mark = state.steps.len();
+    let reduced = reduce_tails(alloc, header, &state.rules, &mut state.steps)?;
+    let (rules, steps) = drop_unused_steps(alloc, reduced, &state.steps)?;
+    state.steps.truncate(mark);
     Ok((rules, steps))
-}
-
-/// The table over the normal words.
-fn table_of(
-    alloc: Global,
-    header: &Header,
-    words: &[Path],
-    steps: &[Step],
-    rules: &[Rule],
-) -> Result<Table, AllocError>
-    requires allowed { IsAllowed header.now }
-    requires claim { IsBasisClaim header.now words.now steps.now rules.now }
-    requires holds { MeetsClauses header.now words.now steps.now rules.now }
-    ensures header { IfOk result (λ table. table.header ≡ header.now) }
-    ensures words { IfOk result (λ table. table.words ≡ words.now) }
-{
-    match check_basis(alloc, header, words, steps, rules) {
-        Ok(table) => Ok(table),
-        Err(CheckBasisError::NoMemory) => Err(AllocError),
-        Err(CheckBasisError::Fault(_)) => {
-            prove!(false);
-            Err(AllocError)
-        }
-    }
 }
 
 /// The paths without a tip.

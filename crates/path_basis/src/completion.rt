@@ -1,23 +1,27 @@
-//! Completion: rules of an ideal until they have no gap.
-ghost use Rattle.std.specs.Prelude.{ℕ, ◌≡◌, ◌<◌, ◌≤◌, ◌+◌, ◌*◌, ◌^◌, ◌-◌, [], take, length, All, Contains, slice_index_or, IfOk, OnOk, MatchBool, IsTrue};
+//! Completion: rules of an ideal until all that is known to give one reduces to zero.
+ghost use Rattle.std.specs.Prelude.{ℕ, ◌≡◌, ◌<◌, ◌≤◌, ◌+◌, ◌*◌, ◌^◌, ◌-◌, [], take, length, All, slice_index_or, IfOk, OnOk, MatchBool, IsTrue};
 ghost use Rattle.quiver_paths.specs.Path.{IsPath, path_length};
 ghost use Rattle.quiver_paths.specs.PathList.{path_count};
+ghost use Rattle.path_algebra.specs.declared.Header.{Header};
 ghost use Rattle.path_algebra.specs.declared.Relation.{Relation};
 ghost use Rattle.path_algebra.specs.declared.rules.Rule.{Rule};
 ghost use Rattle.path_algebra.specs.Allowed.{IsAllowed};
 ghost use Rattle.path_algebra.specs.Elements.{sum_of_terms};
+ghost use Rattle.path_algebra.specs.Derivations.{IsNumber};
 ghost use Rattle.path_algebra.specs.Rules.{AreElementTerms, rule_element};
-ghost use Rattle.path_reduction.specs.Gaps.{IsTidy, HasNoGap};
+ghost use Rattle.path_reduction.specs.Gaps.{IsTidy};
 ghost use Rattle.path_reduction.specs.Occurrences.{StandsAt};
 ghost use Rattle.path_reduction.specs.Derived.{IsDerivation, Derives, AreDerived};
 ghost use Rattle.path_reduction.specs.Reducing.{AreReducedTo};
 ghost use Rattle.path_reduction.specs.FirstGaps.{ForReductions, ClosesAt, IsFirstGap};
 ghost use Rattle.path_reduction.specs.NewRules.{AreParallel, IsNewTo};
+ghost use Rattle.path_basis.specs.Pruning.{AreOrdered};
 ghost use Rattle.path_basis.specs.Measure.{free_count};
-ghost use Rattle.path_basis.specs.Completing.{IsPlace, IsCompletion, HasGrown, IsSame, RelationReduces, IsClosed};
+ghost use Rattle.path_basis.specs.Completing.{IsPlace, IsCompletion, HasGrown, IsSame, RelationReduces, RelationsReduce, IsClosed};
 
 use crate::inserting::insert_rule;
 use crate::places::{Place, push_places};
+use crate::pruning::drop_unused_steps;
 use path_algebra::{Header, Rule, Step, terms_of_relation};
 use path_reduction::{
     Derived, Gap, element_between, first_gap, new_rule, occurrence_at_end, push_step, reduce,
@@ -34,22 +38,15 @@ pub(crate) struct Completion {
     pub(crate) steps: Vec<Step>,
     pub(crate) removed: Vec<Rule>,
     pub(crate) places: Vec<Place>,
+    /// How many steps there were when unused ones were last dropped.
+    pub(crate) kept: usize,
 }
 
-/// Rules of the ideal without a gap, by which the relations reduce to zero.
-pub(crate) fn complete(alloc: Global, header: &Header) -> Result<Completion, AllocError>
-    requires allowed { IsAllowed header.now }
-    requires few { path_count header.now.quiver header.now.bound ≤ 4096 }
-    ensures completion { IfOk result (λ done. IsCompletion header.now done.rules.items done.removed.items done.steps.items) }
-    ensures closed { IfOk result (λ done. IsClosed header.now done.rules.items) }
-{
-    let mut state = from_relations(alloc, header)?;
-    while improve(alloc, header, &mut state)? {}
-    Ok(state)
-}
+/// This many steps are kept before unused ones are dropped.
+const SPARE_STEPS: usize = 65_536;
 
 /// The relations, one after the other, as rules.
-fn from_relations(alloc: Global, header: &Header) -> Result<Completion, AllocError>
+pub(crate) fn from_relations(alloc: Global, header: &Header) -> Result<Completion, AllocError>
     requires allowed { IsAllowed header.now }
     requires few { path_count header.now.quiver header.now.bound ≤ 4096 }
     ensures completion { IfOk result (λ done. IsCompletion header.now done.rules.items done.removed.items done.steps.items) }
@@ -60,6 +57,7 @@ fn from_relations(alloc: Global, header: &Header) -> Result<Completion, AllocErr
         steps: Vec::new(alloc),
         removed: Vec::new(alloc),
         places: Vec::new(alloc),
+        kept: 0,
     };
     for i in 0..header.relations.len() {
         let _grown = settle_relation(alloc, header, &mut state, i)?;
@@ -67,8 +65,26 @@ fn from_relations(alloc: Global, header: &Header) -> Result<Completion, AllocErr
     Ok(state)
 }
 
-/// Reduces what was removed, and then makes a rule of the first thing that gives one: a place, a relation, or the first gap. Answers whether there
-/// was one.
+/// Makes rules of what was removed, of the places and of the relations, until none of these gives one.
+pub(crate) fn complete(
+    alloc: Global,
+    header: &Header,
+    state: &mut Completion,
+) -> Result<(), AllocError>
+    requires allowed { IsAllowed header.now }
+    requires few { path_count header.now.quiver header.now.bound ≤ 4096 }
+    requires completion { IsCompletion header.now state.old.rules.items state.old.removed.items state.old.steps.items }
+    requires places { All (IsPlace header.now) state.old.places.items }
+    ensures completion { OnOk result (IsCompletion header.now state.new.rules.items state.new.removed.items state.new.steps.items) }
+    ensures places { OnOk result (All (IsPlace header.now) state.new.places.items) }
+    ensures relations { OnOk result (RelationsReduce header.now state.new.rules.items) }
+    ensures fewer { OnOk result (free_count header.now state.new.rules.items ≤ free_count header.now state.old.rules.items) }
+{
+    while improve(alloc, header, state)? {}
+    Ok(())
+}
+
+/// Reduces what was removed, and then makes a rule of the first place or relation that gives one. Answers whether there was one.
 fn improve(alloc: Global, header: &Header, state: &mut Completion) -> Result<bool, AllocError>
     requires allowed { IsAllowed header.now }
     requires few { path_count header.now.quiver header.now.bound ≤ 4096 }
@@ -76,16 +92,15 @@ fn improve(alloc: Global, header: &Header, state: &mut Completion) -> Result<boo
     requires places { All (IsPlace header.now) state.old.places.items }
     ensures completion { OnOk result (IsCompletion header.now state.new.rules.items state.new.removed.items state.new.steps.items) }
     ensures places { OnOk result (All (IsPlace header.now) state.new.places.items) }
-    ensures closed { IfOk result (λ grown. MatchBool grown (free_count header.now state.new.rules.items < free_count header.now state.old.rules.items) (IsClosed header.now state.new.rules.items)) }
+    ensures fewer { OnOk result (free_count header.now state.new.rules.items ≤ free_count header.now state.old.rules.items) }
+    ensures grown { IfOk result (λ grown. MatchBool grown (free_count header.now state.new.rules.items < free_count header.now state.old.rules.items) (RelationsReduce header.now state.new.rules.items)) }
 {
     settle_removed(alloc, header, state)?;
+    drop_steps_if_many(alloc, state)?;
     if settle_places(alloc, header, state)? {
         return Ok(true);
     }
-    if settle_relations(alloc, header, state)? {
-        return Ok(true);
-    }
-    let grown = settle_first_gap(alloc, header, state)?;
+    let grown = settle_relations(alloc, header, state)?;
     Ok(grown)
 }
 
@@ -102,6 +117,27 @@ fn settle_removed(alloc: Global, header: &Header, state: &mut Completion) -> Res
     while let Some(rule) = state.removed.pop() {
         let _grown = settle_rule(alloc, header, state, &rule)?;
     }
+    Ok(())
+}
+
+/// Drops the steps that no rule needs, where there are more than twice as many as the last time, and some more, and no rule is removed.
+fn drop_steps_if_many(alloc: Global, state: &mut Completion) -> Result<(), AllocError>
+    requires ordered { AreOrdered state.old.steps.items }
+    requires numbered { All (λ (rule : Rule). IsNumber (length state.old.steps.items) rule.step) state.old.rules.items }
+    requires few { length state.old.steps.items < 2 ^ 32 }
+    ensures completion { (h : Header) → IsCompletion h state.old.rules.items state.old.removed.items state.old.steps.items → OnOk result (IsCompletion h state.new.rules.items state.new.removed.items state.new.steps.items) }
+    ensures same { (h : Header) → OnOk result (free_count h state.new.rules.items ≡ free_count h state.old.rules.items) }
+    ensures places { OnOk result (state.new.places.items ≡ state.old.places.items) }
+{
+    let more = state.steps.len().saturating_sub(SPARE_STEPS);
+    if more / 2 <= state.kept || !state.removed.is_empty() {
+        return Ok(());
+    }
+    let rules = mem::replace(&mut state.rules, Vec::new(alloc));
+    let (rules, steps) = drop_unused_steps(alloc, rules, &state.steps)?;
+    state.kept = steps.len();
+    state.rules = rules;
+    state.steps = steps;
     Ok(())
 }
 
@@ -136,7 +172,7 @@ fn settle_relations(
     ensures completion { OnOk result (IsCompletion header.now state.new.rules.items state.new.removed.items state.new.steps.items) }
     ensures places { OnOk result (All (IsPlace header.now) state.new.places.items) }
     ensures grown { IfOk result (λ grown. MatchBool grown (free_count header.now state.new.rules.items < free_count header.now state.old.rules.items)
-        ((state.new.rules.items ≡ state.old.rules.items) × ((relation : Relation) → Contains header.now.relations relation → RelationReduces header.now state.old.rules.items relation))) }
+        ((state.new.rules.items ≡ state.old.rules.items) × RelationsReduce header.now state.old.rules.items)) }
 {
     for i in 0..header.relations.len() {
         if settle_relation(alloc, header, state, i)? {
@@ -146,26 +182,30 @@ fn settle_relations(
     Ok(false)
 }
 
-/// Makes a rule of the first gap, if there is one. Answers whether there was.
-fn settle_first_gap(
+/// Makes a rule of the first gap, which there is where the rules are not closed.
+pub(crate) fn settle_first_gap(
     alloc: Global,
     header: &Header,
     state: &mut Completion,
-) -> Result<bool, AllocError>
+) -> Result<(), AllocError>
     requires allowed { IsAllowed header.now }
     requires few { path_count header.now.quiver header.now.bound ≤ 4096 }
     requires completion { IsCompletion header.now state.old.rules.items state.old.removed.items state.old.steps.items }
     requires places { All (IsPlace header.now) state.old.places.items }
+    requires relations { RelationsReduce header.now state.old.rules.items }
+    requires gaps { IsClosed header.now state.old.rules.items → ⊥ }
     ensures completion { OnOk result (IsCompletion header.now state.new.rules.items state.new.removed.items state.new.steps.items) }
     ensures places { OnOk result (All (IsPlace header.now) state.new.places.items) }
-    ensures grown { IfOk result (λ grown. MatchBool grown (free_count header.now state.new.rules.items < free_count header.now state.old.rules.items)
-        ((state.new.rules.items ≡ state.old.rules.items) × ForReductions header.now state.old.rules.items (HasNoGap header.now state.old.rules.items))) }
+    ensures fewer { OnOk result (free_count header.now state.new.rules.items < free_count header.now state.old.rules.items) }
 {
     match first_gap(alloc, header, &state.rules)? {
-        None => Ok(false),
+        None => {
+            prove!(false);
+            Ok(())
+        }
         Some(gap) => {
-            let grown = settle_gap(alloc, header, state, &gap)?;
-            Ok(grown)
+            let _grown = settle_gap(alloc, header, state, &gap)?;
+            Ok(())
         }
     }
 }

@@ -30,6 +30,7 @@ pub(crate) fn reduce_tails(
     ensures lawful { OnOk result (IsDerivation header.now steps.new.items) }
     ensures derived { IfOk result (λ new. AreDerived header.now steps.new.items new.items) }
     ensures count { OnOk result (length steps.new.items ≤ 131136 * 8192) }
+    ensures lengthens { OnOk result (Lengthens steps.old.items steps.new.items) }
 {
     let mut reduced = Vec::new(alloc);
     for rule in rules {

@@ -1,13 +1,15 @@
+use Rattle.std.proofs.Common.{◌≤◌}
 use Rattle.std.specs.Prelude.{All}
 use Rattle.path_basis.specs.Measure.{free_count}
 use Rattle.path_basis.specs.Completing.{IsPlace, IsCompletion}
 use Rattle.path_basis.proofs.completion.complete.Given as goal
 
-abbrev pub invariant-loop-state : goal.invariant-loop-state
-invariant-loop-state l = record {
+abbrev pub invariant-loop : goal.invariant-loop
+invariant-loop l = record {
   completion : IsCompletion l.header l.state.rules.items l.state.removed.items l.state.steps.items;
   places : All (IsPlace l.header) l.state.places.items;
+  fewer : free_count l.header l.state.rules.items ≤ free_count l.header l.fn.state.rules.items;
 }
 
-abbrev pub decreases-loop-state : goal.decreases-loop-state
-decreases-loop-state l = free_count l.header l.state.rules.items
+abbrev pub decreases-loop : goal.decreases-loop
+decreases-loop l = free_count l.header l.state.rules.items

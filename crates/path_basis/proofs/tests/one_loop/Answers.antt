@@ -1,6 +1,5 @@
-use Rattle.path_basis.proofs.WorkedRules.{built_one}
+use Rattle.path_basis.proofs.WorkedRules.{built, one_loop_is}
 use Rattle.path_basis.proofs.tests.one_loop.Goals as goal
 
 pub returns : goal.returns
-returns c = built_one c.in_ok-field.field-0 c.in_ok-vertices.field-0 _ c.push.new.self c.in_ok-arrow.field-0 _ c.push-2.new.self c.in_ok-relation.field-0 c.in_ok-field.ensures c.in_ok-vertices.ensures c.new-arrows.ensures c.in_ok-arrow.ensures
-    c.in_ok-push.ensures c.new-relations.ensures c.in_ok-relation.ensures c.in_ok-push-2.ensures
+returns c = one_loop_is c.in_ok-header.header c.in_ok-header.ensures.field (built c.in_ok-header.header c.in_ok-header.header.field _ _ 4 _ _ c.in_ok-header.ensures.header c.in_ok-x_loop.ensures c.in_ok-relations.ensures)
