@@ -23,8 +23,7 @@ use Rattle.quiver_paths.specs.PathOrder.{IsSmaller}
 use Rattle.quiver_paths.specs.PathList.{path_count}
 use Rattle.quiver_paths.proofs.ListLemmas.{AllPairs-nil, Contains-nil}
 use Rattle.path_basis.proofs.Measure.{free_count-le}
-use Rattle.path_basis.specs.declared.places.Place.{Place}
-use Rattle.path_basis.specs.Completing.{IsCompletion, HasGrown, IsSame}
+use Rattle.path_basis.specs.Completing.{IsCompletion, HasGrown}
 use Rattle.path_reduction.proofs.Deriving.{still_derived, derives_same, Lengthens-trans}
 
 all_members : {X : Type 0} (P : X → Type 0) (xs : List X) → ((x : X) → Contains xs x → P x) → All P xs
@@ -96,10 +95,3 @@ completion_begins h rules removed steps few e f g =
       removed_derived = λ k d l. absurd (omega (arith, l));
       room = (let c = free_count-le h [] in omega (arith, c, few));
     })))
-
--- ---- where nothing changed
-
-pub same_completion : (h : Header) (old old_removed : List Rule) (old_places : List Place) (old_steps : List Step) (new new_removed : List Rule) (new_places : List Place) (new_steps : List Step)
-    → IsSame old old_removed old_places new new_removed new_places → new_steps ≡ old_steps → IsCompletion h old old_removed old_steps → IsCompletion h new new_removed new_steps
-same_completion h old old_removed old_places old_steps new new_removed new_places new_steps same e completion =
-    subst (λ xs. IsCompletion h xs new_removed new_steps) (sym same.rules) (subst (λ xs. IsCompletion h old xs new_steps) (sym same.removed) (subst (IsCompletion h old old_removed) (sym e) completion))

@@ -1,5 +1,5 @@
 -- The worked algebras of the tests are allowed, and their rules are tidy.
-use Rattle.std.proofs.Common.{ℕ, ◌≡◌, ◌<◌, ◌≤◌, List, [], ◌∷◌, length, get_or, refl, sym, ap, ◌∙◌, subst, arith}
+use Rattle.std.proofs.Common.{ℕ, ◌≡◌, ◌<◌, ◌≤◌, inl, List, [], ◌∷◌, length, get_or, refl, sym, ap, ◌∙◌, subst, arith}
 use Rattle.std.specs.Prelude.{All, AllPairs, IsTrue}
 use Rattle.std.proofs.lemmas.List.Elements.{All-nil, All-cons, All-head, All-tail}
 use Rattle.linear_algebra.specs.Field.{Gf, order}
@@ -9,10 +9,10 @@ use Rattle.quiver_paths.specs.declared.Arrow.{Arrow}
 use Rattle.quiver_paths.specs.Quiver.{vertex_count, arrow_count, source, target}
 use Rattle.quiver_paths.specs.Path.{IsPath, Leads, path_length}
 use Rattle.quiver_paths.specs.Name.{IsName, is_name_byte}
-use Rattle.quiver_paths.specs.PathOrder.{IsSmaller}
+use Rattle.quiver_paths.specs.PathOrder.{IsSmaller, ComesBefore}
 use Rattle.quiver_paths.proofs.QuiverLemmas.{source_is, target_is, IsQuiver-from_lists}
 use Rattle.quiver_paths.proofs.ListLemmas.{AllPairs-nil}
-use Rattle.quiver_paths.proofs.PathOrderLemmas.{IsSmaller-from_shorter}
+use Rattle.quiver_paths.proofs.PathOrderLemmas.{IsSmaller-from_shorter, smaller_from_comes_before}
 use Rattle.path_algebra.specs.declared.Term.{Term}
 use Rattle.path_algebra.specs.declared.Relation.{Relation}
 use Rattle.path_algebra.specs.declared.Header.{Header}
@@ -21,7 +21,7 @@ use Rattle.path_algebra.specs.Allowed.{IsAllowed, IsArrowName, IsRelation, IsTer
 use Rattle.path_algebra.specs.Rules.{AreElementTerms}
 use Rattle.path_algebra.proofs.TermLists.{Contains-one, AreElementTerms-nil, AreElementTerms-one}
 use Rattle.path_reduction.specs.Gaps.{IsTidy, AreTidy}
-use Rattle.path_basis.specs.Worked.{along, term, one_vertex, x_loop, y_loop, sum_is_zero, rules_of, IsOneLoop}
+use Rattle.path_basis.specs.Worked.{along, term, one_vertex, x_loop, y_loop, sum_is_zero, rules_of, IsOneLoop, IsTwoLoops}
 
 one : {X : Type 0} (P : X → Type 0) (x : X) → P x → All P (x ∷ [])
 one P x p = All-cons P x [] p (All-nil P)
@@ -205,8 +205,18 @@ module _ (f : Gf) (bound : ℕ) (e : order f ≡ 2) where
   two_allowed : 2 ≤ bound → bound ≤ 32 → IsAllowed two_loops
   two_allowed low high = allowed f (x_loop ∷ y_loop ∷ []) bound both_loops two_loops.relations low high (omega arith) (one (IsRelation two_loops) _ two_relation)
 
-pub two_loops_allowed : (h : Header) (bound : ℕ) → order h.field ≡ 2 → 2 ≤ bound → bound ≤ 32 → h ≡ one_vertex h.field (x_loop ∷ y_loop ∷ []) bound (sum_is_zero (1 ∷ 1 ∷ []) (0 ∷ 0 ∷ []) ∷ []) → IsAllowed h
-two_loops_allowed h bound f low high e = subst IsAllowed (sym e) (two_allowed h.field bound f low high)
+  two_squares : 3 ≤ bound → AreTidy two_loops (rules_of (1 ∷ 1 ∷ []) (term 1 (0 ∷ 0 ∷ []) ∷ []))
+  two_squares low = one_tidy two_loops (1 ∷ 1 ∷ []) (term 1 (0 ∷ 0 ∷ []) ∷ []) (square 1 (omega arith)) (omega arith) (omega (arith, low))
+      (AreElementTerms-one two_loops (term 1 (0 ∷ 0 ∷ [])) (record { nonzero = omega arith; small = omega (arith, e); short = record { path = square 0 (omega arith); short = omega (arith, low) } }))
+      (one (λ (a : Term). IsParallel a.path (along (1 ∷ 1 ∷ []))) (term 1 (0 ∷ 0 ∷ [])) (record { starts = refl; ends = refl }))
+      (one (λ (a : Term). IsSmaller a.path (along (1 ∷ 1 ∷ []))) (term 1 (0 ∷ 0 ∷ []))
+      (smaller_from_comes_before (along (0 ∷ 0 ∷ [])) (along (1 ∷ 1 ∷ [])) (ComesBefore.by_arrows refl (inl (omega arith)))))
+
+  worked_two : 2 ≤ bound → bound ≤ 32 → IsTwoLoops two_loops
+  worked_two low high = record { allowed = two_allowed low high; square = two_squares }
+
+pub two_loops_is : (h : Header) (bound : ℕ) → order h.field ≡ 2 → 2 ≤ bound → bound ≤ 32 → h ≡ one_vertex h.field (x_loop ∷ y_loop ∷ []) bound (sum_is_zero (1 ∷ 1 ∷ []) (0 ∷ 0 ∷ []) ∷ []) → IsTwoLoops h
+two_loops_is h bound f low high e = subst IsTwoLoops (sym e) (worked_two h.field bound f low high)
 
 -- ---- headers as they are built
 

@@ -1,5 +1,5 @@
 -- The worked algebras of the tests: one vertex with loops.
-use Rattle.std.specs.Prelude.{ℕ, List, [], ◌∷◌}
+use Rattle.std.specs.Prelude.{ℕ, ◌≤◌, List, [], ◌∷◌}
 use Rattle.linear_algebra.specs.Field.{Gf}
 use Rattle.quiver_paths.specs.declared.Path.{Path}
 use Rattle.quiver_paths.specs.declared.Arrow.{Arrow}
@@ -51,3 +51,8 @@ pub record IsOneLoop (h : Header) : Type 0 where
   pub allowed : IsAllowed h
   pub cube : AreTidy h (rules_of (0 ∷ 0 ∷ 0 ∷ []) (term 2 (0 ∷ 0 ∷ []) ∷ []))
   pub square : AreTidy h (rules_of (0 ∷ 0 ∷ []) [])
+
+-- two loops with y·y = x·x, and this as a rule, where it is shorter than the bound
+pub record IsTwoLoops (h : Header) : Type 0 where
+  pub allowed : IsAllowed h
+  pub square : 3 ≤ h.bound → AreTidy h (rules_of (1 ∷ 1 ∷ []) (term 1 (0 ∷ 0 ∷ []) ∷ []))

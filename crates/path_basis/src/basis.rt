@@ -19,6 +19,7 @@ use crate::pruning::drop_unused_steps;
 use crate::tails::reduce_tails;
 use alg_table::{CheckBasisError, Table, check_basis};
 use path_algebra::{Header, Rule, Step, has_tip};
+use path_reduction::ShortPaths;
 use quiver_paths::{Path, PathError, paths_below};
 use seq::Seq;
 use std::alloc::{AllocError, Global};
@@ -61,13 +62,14 @@ fn complete_basis(alloc: Global, header: &Header, paths: &[Path]) -> Result<Redu
     requires few_paths { length paths.now ≤ 4096 }
     ensures { IfOk result (IsResult header.now) }
 {
-    let mut state = from_relations(alloc, header)?;
+    let space = ShortPaths::new(alloc, header)?;
+    let mut state = from_relations(alloc, header, &space)?;
     'gaps: loop {
-        complete(alloc, header, &mut state)?;
-        if let Some(reduced) = basis_if_holds(alloc, header, &mut state, paths)? {
+        complete(alloc, header, &space, &mut state)?;
+        if let Some(reduced) = basis_if_holds(alloc, header, &space, &mut state, paths)? {
             return Ok(reduced);
         }
-        settle_first_gap(alloc, header, &mut state)?;
+        settle_first_gap(alloc, header, &space, &mut state)?;
     }
 }
 
@@ -75,11 +77,13 @@ fn complete_basis(alloc: Global, header: &Header, paths: &[Path]) -> Result<Redu
 fn basis_if_holds(
     alloc: Global,
     header: &Header,
+    space: &ShortPaths,
     state: &mut Completion,
     paths: &[Path],
 ) -> Result<Option<Reduced>, AllocError>
     requires allowed { IsAllowed header.now }
     requires few { path_count header.now.quiver header.now.bound ≤ 4096 }
+    requires space { ListsPathsBelow header.now.quiver header.now.bound space.now }
     requires completion { IsCompletion header.now state.old.rules.items state.old.removed.items state.old.steps.items }
     requires paths { ListsPathsBelow header.now.quiver header.now.bound paths.now }
     requires few_paths { length paths.now ≤ 4096 }
@@ -88,7 +92,7 @@ fn basis_if_holds(
     ensures holds { IfOk result (λ found. IfSome found (IsResult header.now)) }
     ensures gaps { IfOk result (λ found. IfNone found (IsClosed header.now state.old.rules.items → ⊥)) }
 {
-    let (rules, steps) = reduced_rules(alloc, header, state)?;
+    let (rules, steps) = reduced_rules(alloc, header, space, state)?;
     let words = words_among(alloc, &rules, paths)?;
     match check_basis(alloc, header, &words, &steps, &rules) {
         Ok(table) => Ok(Some(Reduced {
@@ -106,10 +110,12 @@ fn basis_if_holds(
 fn reduced_rules(
     alloc: Global,
     header: &Header,
+    space: &ShortPaths,
     state: &mut Completion,
 ) -> Result<(Vec<Rule>, Vec<Step>), AllocError>
     requires allowed { IsAllowed header.now }
     requires few { path_count header.now.quiver header.now.bound ≤ 4096 }
+    requires space { ListsPathsBelow header.now.quiver header.now.bound space.now }
     requires completion { IsCompletion header.now state.old.rules.items state.old.removed.items state.old.steps.items }
     ensures same { OnOk result (IsSame state.old.rules.items state.old.removed.items state.old.places.items state.new.rules.items state.new.removed.items state.new.places.items) }
     ensures steps { OnOk result (state.new.steps.items ≡ state.old.steps.items) }
@@ -122,7 +128,7 @@ fn reduced_rules(
     ensures few_steps { IfOk result (λ r. length r.1.items < 2 ^ 32) }
 {
     let mark = state.steps.len();
-    let reduced = reduce_tails(alloc, header, &state.rules, &mut state.steps)?;
+    let reduced = reduce_tails(alloc, header, space, &state.rules, &mut state.steps)?;
     let (rules, steps) = drop_unused_steps(alloc, reduced, &state.steps)?;
     state.steps.truncate(mark);
     Ok((rules, steps))

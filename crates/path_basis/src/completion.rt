@@ -1,7 +1,7 @@
 //! Completion: rules of an ideal until all that is known to give one reduces to zero.
 ghost use Rattle.std.specs.Prelude.{ℕ, ◌≡◌, ◌<◌, ◌≤◌, ◌+◌, ◌*◌, ◌^◌, ◌-◌, [], take, length, All, slice_index_or, IfOk, OnOk, MatchBool, IsTrue};
 ghost use Rattle.quiver_paths.specs.Path.{IsPath, path_length};
-ghost use Rattle.quiver_paths.specs.PathList.{path_count};
+ghost use Rattle.quiver_paths.specs.PathList.{path_count, ListsPathsBelow};
 ghost use Rattle.path_algebra.specs.declared.Header.{Header};
 ghost use Rattle.path_algebra.specs.declared.Relation.{Relation};
 ghost use Rattle.path_algebra.specs.declared.rules.Rule.{Rule};
@@ -24,7 +24,8 @@ use crate::places::{Place, push_places};
 use crate::pruning::drop_unused_steps;
 use path_algebra::{Header, Rule, Step, terms_of_relation};
 use path_reduction::{
-    Derived, Gap, element_between, first_gap, new_rule, occurrence_at_end, push_step, reduce,
+    Derived, Gap, ShortPaths, element_between, first_gap, new_rule, occurrence_at_end, push_step,
+    reduce,
 };
 use quiver_paths::Path;
 use std::alloc::{AllocError, Global};
@@ -38,7 +39,7 @@ pub(crate) struct Completion {
     pub(crate) steps: Vec<Step>,
     pub(crate) removed: Vec<Rule>,
     pub(crate) places: Vec<Place>,
-    /// How many steps there were when unused ones were last dropped.
+    /// How many steps were left when unused ones were last dropped.
     pub(crate) kept: usize,
 }
 
@@ -46,9 +47,14 @@ pub(crate) struct Completion {
 const SPARE_STEPS: usize = 65_536;
 
 /// The relations, one after the other, as rules.
-pub(crate) fn from_relations(alloc: Global, header: &Header) -> Result<Completion, AllocError>
+pub(crate) fn from_relations(
+    alloc: Global,
+    header: &Header,
+    space: &ShortPaths,
+) -> Result<Completion, AllocError>
     requires allowed { IsAllowed header.now }
     requires few { path_count header.now.quiver header.now.bound ≤ 4096 }
+    requires space { ListsPathsBelow header.now.quiver header.now.bound space.now }
     ensures completion { IfOk result (λ done. IsCompletion header.now done.rules.items done.removed.items done.steps.items) }
     ensures places { IfOk result (λ done. All (IsPlace header.now) done.places.items) }
 {
@@ -60,7 +66,7 @@ pub(crate) fn from_relations(alloc: Global, header: &Header) -> Result<Completio
         kept: 0,
     };
     for i in 0..header.relations.len() {
-        let _grown = settle_relation(alloc, header, &mut state, i)?;
+        let _grown = settle_relation(alloc, header, space, &mut state, i)?;
     }
     Ok(state)
 }
@@ -69,10 +75,12 @@ pub(crate) fn from_relations(alloc: Global, header: &Header) -> Result<Completio
 pub(crate) fn complete(
     alloc: Global,
     header: &Header,
+    space: &ShortPaths,
     state: &mut Completion,
 ) -> Result<(), AllocError>
     requires allowed { IsAllowed header.now }
     requires few { path_count header.now.quiver header.now.bound ≤ 4096 }
+    requires space { ListsPathsBelow header.now.quiver header.now.bound space.now }
     requires completion { IsCompletion header.now state.old.rules.items state.old.removed.items state.old.steps.items }
     requires places { All (IsPlace header.now) state.old.places.items }
     ensures completion { OnOk result (IsCompletion header.now state.new.rules.items state.new.removed.items state.new.steps.items) }
@@ -80,14 +88,20 @@ pub(crate) fn complete(
     ensures relations { OnOk result (RelationsReduce header.now state.new.rules.items) }
     ensures fewer { OnOk result (free_count header.now state.new.rules.items ≤ free_count header.now state.old.rules.items) }
 {
-    while improve(alloc, header, state)? {}
+    while improve(alloc, header, space, state)? {}
     Ok(())
 }
 
 /// Reduces what was removed, and then makes a rule of the first place or relation that gives one. Answers whether there was one.
-fn improve(alloc: Global, header: &Header, state: &mut Completion) -> Result<bool, AllocError>
+fn improve(
+    alloc: Global,
+    header: &Header,
+    space: &ShortPaths,
+    state: &mut Completion,
+) -> Result<bool, AllocError>
     requires allowed { IsAllowed header.now }
     requires few { path_count header.now.quiver header.now.bound ≤ 4096 }
+    requires space { ListsPathsBelow header.now.quiver header.now.bound space.now }
     requires completion { IsCompletion header.now state.old.rules.items state.old.removed.items state.old.steps.items }
     requires places { All (IsPlace header.now) state.old.places.items }
     ensures completion { OnOk result (IsCompletion header.now state.new.rules.items state.new.removed.items state.new.steps.items) }
@@ -95,19 +109,25 @@ fn improve(alloc: Global, header: &Header, state: &mut Completion) -> Result<boo
     ensures fewer { OnOk result (free_count header.now state.new.rules.items ≤ free_count header.now state.old.rules.items) }
     ensures grown { IfOk result (λ grown. MatchBool grown (free_count header.now state.new.rules.items < free_count header.now state.old.rules.items) (RelationsReduce header.now state.new.rules.items)) }
 {
-    settle_removed(alloc, header, state)?;
+    settle_removed(alloc, header, space, state)?;
     drop_steps_if_many(alloc, state)?;
-    if settle_places(alloc, header, state)? {
+    if settle_places(alloc, header, space, state)? {
         return Ok(true);
     }
-    let grown = settle_relations(alloc, header, state)?;
+    let grown = settle_relations(alloc, header, space, state)?;
     Ok(grown)
 }
 
 /// Reduces the rules that were removed, and those that are removed meanwhile.
-fn settle_removed(alloc: Global, header: &Header, state: &mut Completion) -> Result<(), AllocError>
+fn settle_removed(
+    alloc: Global,
+    header: &Header,
+    space: &ShortPaths,
+    state: &mut Completion,
+) -> Result<(), AllocError>
     requires allowed { IsAllowed header.now }
     requires few { path_count header.now.quiver header.now.bound ≤ 4096 }
+    requires space { ListsPathsBelow header.now.quiver header.now.bound space.now }
     requires completion { IsCompletion header.now state.old.rules.items state.old.removed.items state.old.steps.items }
     requires places { All (IsPlace header.now) state.old.places.items }
     ensures completion { OnOk result (IsCompletion header.now state.new.rules.items state.new.removed.items state.new.steps.items) }
@@ -115,7 +135,7 @@ fn settle_removed(alloc: Global, header: &Header, state: &mut Completion) -> Res
     ensures fewer { OnOk result (free_count header.now state.new.rules.items ≤ free_count header.now state.old.rules.items) }
 {
     while let Some(rule) = state.removed.pop() {
-        let _grown = settle_rule(alloc, header, state, &rule)?;
+        let _grown = settle_rule(alloc, header, space, state, &rule)?;
     }
     Ok(())
 }
@@ -142,9 +162,15 @@ fn drop_steps_if_many(alloc: Global, state: &mut Completion) -> Result<(), Alloc
 }
 
 /// Makes rules of what is said at the places, up to the first that gives one. Answers whether there was one.
-fn settle_places(alloc: Global, header: &Header, state: &mut Completion) -> Result<bool, AllocError>
+fn settle_places(
+    alloc: Global,
+    header: &Header,
+    space: &ShortPaths,
+    state: &mut Completion,
+) -> Result<bool, AllocError>
     requires allowed { IsAllowed header.now }
     requires few { path_count header.now.quiver header.now.bound ≤ 4096 }
+    requires space { ListsPathsBelow header.now.quiver header.now.bound space.now }
     requires completion { IsCompletion header.now state.old.rules.items state.old.removed.items state.old.steps.items }
     requires places { All (IsPlace header.now) state.old.places.items }
     ensures completion { OnOk result (IsCompletion header.now state.new.rules.items state.new.removed.items state.new.steps.items) }
@@ -152,7 +178,7 @@ fn settle_places(alloc: Global, header: &Header, state: &mut Completion) -> Resu
     ensures grown { IfOk result (λ grown. MatchBool grown (free_count header.now state.new.rules.items < free_count header.now state.old.rules.items) (state.new.rules.items ≡ state.old.rules.items)) }
 {
     while let Some(place) = state.places.pop() {
-        if settle_place(alloc, header, state, &place)? {
+        if settle_place(alloc, header, space, state, &place)? {
             return Ok(true);
         }
     }
@@ -163,10 +189,12 @@ fn settle_places(alloc: Global, header: &Header, state: &mut Completion) -> Resu
 fn settle_relations(
     alloc: Global,
     header: &Header,
+    space: &ShortPaths,
     state: &mut Completion,
 ) -> Result<bool, AllocError>
     requires allowed { IsAllowed header.now }
     requires few { path_count header.now.quiver header.now.bound ≤ 4096 }
+    requires space { ListsPathsBelow header.now.quiver header.now.bound space.now }
     requires completion { IsCompletion header.now state.old.rules.items state.old.removed.items state.old.steps.items }
     requires places { All (IsPlace header.now) state.old.places.items }
     ensures completion { OnOk result (IsCompletion header.now state.new.rules.items state.new.removed.items state.new.steps.items) }
@@ -175,7 +203,7 @@ fn settle_relations(
         ((state.new.rules.items ≡ state.old.rules.items) × RelationsReduce header.now state.old.rules.items)) }
 {
     for i in 0..header.relations.len() {
-        if settle_relation(alloc, header, state, i)? {
+        if settle_relation(alloc, header, space, state, i)? {
             return Ok(true);
         }
     }
@@ -186,10 +214,12 @@ fn settle_relations(
 pub(crate) fn settle_first_gap(
     alloc: Global,
     header: &Header,
+    space: &ShortPaths,
     state: &mut Completion,
 ) -> Result<(), AllocError>
     requires allowed { IsAllowed header.now }
     requires few { path_count header.now.quiver header.now.bound ≤ 4096 }
+    requires space { ListsPathsBelow header.now.quiver header.now.bound space.now }
     requires completion { IsCompletion header.now state.old.rules.items state.old.removed.items state.old.steps.items }
     requires places { All (IsPlace header.now) state.old.places.items }
     requires relations { RelationsReduce header.now state.old.rules.items }
@@ -204,7 +234,7 @@ pub(crate) fn settle_first_gap(
             Ok(())
         }
         Some(gap) => {
-            let _grown = settle_gap(alloc, header, state, &gap)?;
+            let _grown = settle_gap(alloc, header, space, state, &gap)?;
             Ok(())
         }
     }
@@ -214,11 +244,13 @@ pub(crate) fn settle_first_gap(
 fn settle_gap(
     alloc: Global,
     header: &Header,
+    space: &ShortPaths,
     state: &mut Completion,
     gap: &Gap,
 ) -> Result<bool, AllocError>
     requires allowed { IsAllowed header.now }
     requires few { path_count header.now.quiver header.now.bound ≤ 4096 }
+    requires space { ListsPathsBelow header.now.quiver header.now.bound space.now }
     requires completion { IsCompletion header.now state.old.rules.items state.old.removed.items state.old.steps.items }
     requires places { All (IsPlace header.now) state.old.places.items }
     requires gap { ForReductions header.now state.old.rules.items (λ becomes. IsFirstGap header.now state.old.rules.items becomes gap.now) }
@@ -228,7 +260,15 @@ fn settle_gap(
     ensures fewer { OnOk result (free_count header.now state.new.rules.items < free_count header.now state.old.rules.items) }
 {
     let rule = gap.rule as usize - 1;
-    let grown = settle_at(alloc, header, state, rule, &gap.path, gap.at as usize)?;
+    let grown = settle_at(
+        alloc,
+        header,
+        space,
+        state,
+        rule,
+        &gap.path,
+        gap.at as usize,
+    )?;
     Ok(grown)
 }
 
@@ -236,11 +276,13 @@ fn settle_gap(
 fn settle_relation(
     alloc: Global,
     header: &Header,
+    space: &ShortPaths,
     state: &mut Completion,
     i: usize,
 ) -> Result<bool, AllocError>
     requires allowed { IsAllowed header.now }
     requires few { path_count header.now.quiver header.now.bound ≤ 4096 }
+    requires space { ListsPathsBelow header.now.quiver header.now.bound space.now }
     requires completion { IsCompletion header.now state.old.rules.items state.old.removed.items state.old.steps.items }
     requires places { All (IsPlace header.now) state.old.places.items }
     requires number { i < length header.now.relations }
@@ -254,7 +296,7 @@ fn settle_relation(
     let relation = &header.relations[i];
     let terms = terms_of_relation(alloc, header, relation)?;
     let step = push_step(&mut state.steps, Step::Relation(i as u32 + 1))?;
-    let grown = settle(alloc, header, state, mark, Derived { terms, step })?;
+    let grown = settle(alloc, header, space, state, mark, Derived { terms, step })?;
     Ok(grown)
 }
 
@@ -262,11 +304,13 @@ fn settle_relation(
 fn settle_place(
     alloc: Global,
     header: &Header,
+    space: &ShortPaths,
     state: &mut Completion,
     place: &Place,
 ) -> Result<bool, AllocError>
     requires allowed { IsAllowed header.now }
     requires few { path_count header.now.quiver header.now.bound ≤ 4096 }
+    requires space { ListsPathsBelow header.now.quiver header.now.bound space.now }
     requires completion { IsCompletion header.now state.old.rules.items state.old.removed.items state.old.steps.items }
     requires places { All (IsPlace header.now) state.old.places.items }
     requires place { IsPlace header.now place.now }
@@ -279,7 +323,15 @@ fn settle_place(
     match occurrence_at_end(&state.rules, &arrows[..place.end]) {
         None => Ok(false),
         Some(found) => {
-            let grown = settle_at(alloc, header, state, found.rule, &place.path, found.before)?;
+            let grown = settle_at(
+                alloc,
+                header,
+                space,
+                state,
+                found.rule,
+                &place.path,
+                found.before,
+            )?;
             Ok(grown)
         }
     }
@@ -289,6 +341,7 @@ fn settle_place(
 fn settle_at(
     alloc: Global,
     header: &Header,
+    space: &ShortPaths,
     state: &mut Completion,
     rule: usize,
     path: &Path,
@@ -296,6 +349,7 @@ fn settle_at(
 ) -> Result<bool, AllocError>
     requires allowed { IsAllowed header.now }
     requires few { path_count header.now.quiver header.now.bound ≤ 4096 }
+    requires space { ListsPathsBelow header.now.quiver header.now.bound space.now }
     requires completion { IsCompletion header.now state.old.rules.items state.old.removed.items state.old.steps.items }
     requires places { All (IsPlace header.now) state.old.places.items }
     requires number { rule < length state.old.rules.items }
@@ -311,7 +365,7 @@ fn settle_at(
     let mark = state.steps.len();
     let rule = &state.rules[rule];
     let given = element_between(alloc, header, &mut state.steps, rule, path, before)?;
-    let grown = settle(alloc, header, state, mark, given)?;
+    let grown = settle(alloc, header, space, state, mark, given)?;
     Ok(grown)
 }
 
@@ -319,11 +373,13 @@ fn settle_at(
 fn settle_rule(
     alloc: Global,
     header: &Header,
+    space: &ShortPaths,
     state: &mut Completion,
     rule: &Rule,
 ) -> Result<bool, AllocError>
     requires allowed { IsAllowed header.now }
     requires few { path_count header.now.quiver header.now.bound ≤ 4096 }
+    requires space { ListsPathsBelow header.now.quiver header.now.bound space.now }
     requires completion { IsCompletion header.now state.old.rules.items state.old.removed.items state.old.steps.items }
     requires places { All (IsPlace header.now) state.old.places.items }
     requires tidy { IsTidy header.now rule.now }
@@ -335,7 +391,7 @@ fn settle_rule(
 {
     let mark = state.steps.len();
     let given = element_between(alloc, header, &mut state.steps, rule, &rule.tip, 0)?;
-    let grown = settle(alloc, header, state, mark, given)?;
+    let grown = settle(alloc, header, space, state, mark, given)?;
     Ok(grown)
 }
 
@@ -344,12 +400,14 @@ fn settle_rule(
 fn settle(
     alloc: Global,
     header: &Header,
+    space: &ShortPaths,
     state: &mut Completion,
     mark: usize,
     given: Derived,
 ) -> Result<bool, AllocError>
     requires allowed { IsAllowed header.now }
     requires few { path_count header.now.quiver header.now.bound ≤ 4096 }
+    requires space { ListsPathsBelow header.now.quiver header.now.bound space.now }
     requires completion { IsCompletion header.now state.old.rules.items state.old.removed.items (take mark state.old.steps.items) }
     requires places { All (IsPlace header.now) state.old.places.items }
     requires mark { mark ≤ length state.old.steps.items }
@@ -363,7 +421,7 @@ fn settle(
         (IsSame state.old.rules.items state.old.removed.items state.old.places.items state.new.rules.items state.new.removed.items state.new.places.items
         × AreReducedTo header.now state.old.rules.items given.terms.items [])) }
 {
-    let reduced = reduce(alloc, header, &state.rules, &mut state.steps, given)?;
+    let reduced = reduce(alloc, header, space, &state.rules, &mut state.steps, given)?;
     if reduced.terms.is_empty() {
         state.steps.truncate(mark);
         return Ok(false);

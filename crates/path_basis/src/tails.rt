@@ -1,6 +1,6 @@
 //! Rules with reduced tails.
 ghost use Rattle.std.specs.Prelude.{◌≡◌, ◌<◌, ◌≤◌, ◌+◌, ◌*◌, ◌^◌, length, Contains, IfOk, OnOk};
-ghost use Rattle.quiver_paths.specs.PathList.{path_count};
+ghost use Rattle.quiver_paths.specs.PathList.{path_count, ListsPathsBelow};
 ghost use Rattle.path_algebra.specs.Allowed.{IsAllowed};
 ghost use Rattle.path_algebra.specs.Rules.{rule_element};
 ghost use Rattle.path_reduction.specs.Gaps.{AreTidy};
@@ -8,7 +8,7 @@ ghost use Rattle.path_reduction.specs.Derived.{IsDerivation, Derives, Lengthens,
 ghost use Rattle.path_basis.specs.Tails.{IsTailReduced, AreTailsReduced};
 
 use path_algebra::{Element, Header, Rule, Step};
-use path_reduction::{Derived, negatives, reduce};
+use path_reduction::{Derived, ShortPaths, negatives, reduce};
 use seq::Seq;
 use std::alloc::{AllocError, Global};
 
@@ -16,11 +16,13 @@ use std::alloc::{AllocError, Global};
 pub(crate) fn reduce_tails(
     alloc: Global,
     header: &Header,
+    space: &ShortPaths,
     rules: &[Rule],
     steps: &mut Vec<Step>,
 ) -> Result<Vec<Rule>, AllocError>
     requires allowed { IsAllowed header.now }
     requires few { path_count header.now.quiver header.now.bound ≤ 4096 }
+    requires space { ListsPathsBelow header.now.quiver header.now.bound space.now }
     requires tidy { AreTidy header.now rules.now }
     requires lawful { IsDerivation header.now steps.old.items }
     requires derived { AreDerived header.now steps.old.items rules.now }
@@ -34,7 +36,7 @@ pub(crate) fn reduce_tails(
 {
     let mut reduced = Vec::new(alloc);
     for rule in rules {
-        let with_tail = with_reduced_tail(alloc, header, rules, steps, rule)?;
+        let with_tail = with_reduced_tail(alloc, header, space, rules, steps, rule)?;
         reduced.push(with_tail)?;
     }
     Ok(reduced)
@@ -44,12 +46,14 @@ pub(crate) fn reduce_tails(
 fn with_reduced_tail(
     alloc: Global,
     header: &Header,
+    space: &ShortPaths,
     rules: &[Rule],
     steps: &mut Vec<Step>,
     rule: &Rule,
 ) -> Result<Rule, AllocError>
     requires allowed { IsAllowed header.now }
     requires few { path_count header.now.quiver header.now.bound ≤ 4096 }
+    requires space { ListsPathsBelow header.now.quiver header.now.bound space.now }
     requires tidy { AreTidy header.now rules.now }
     requires listed { Contains rules.now rule.now }
     requires lawful { IsDerivation header.now steps.old.items }
@@ -62,7 +66,7 @@ fn with_reduced_tail(
 {
     let terms = negatives(alloc, header, rule.tail.terms.as_slice())?;
     let step = rule.step;
-    let rest = reduce(alloc, header, rules, steps, Derived { terms, step })?;
+    let rest = reduce(alloc, header, space, rules, steps, Derived { terms, step })?;
     let tail = negatives(alloc, header, &rest.terms)?;
     let tip = rule.tip.clone()?;
     let terms = Seq::from_vec(tail);

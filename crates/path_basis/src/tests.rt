@@ -2,11 +2,13 @@
 ghost use Rattle.std.specs.Prelude.{◌≡◌, ◌≤◌, [], ◌∷◌, IfOk};
 ghost use Rattle.linear_algebra.specs.Field.{order};
 ghost use Rattle.path_algebra.specs.Allowed.{IsAllowed};
-ghost use Rattle.path_basis.specs.Worked.{along, loop_arrow, x_loop, y_loop, term, one_vertex, sum_is_zero, rules_of, IsOneLoop};
+ghost use Rattle.path_basis.specs.Worked.{along, loop_arrow, x_loop, y_loop, term, one_vertex, sum_is_zero, rules_of, IsOneLoop, IsTwoLoops};
 
+use crate::completion::{complete, from_relations};
 use crate::{Reduced, first_gap, reduce_basis};
 use fp_linear::Field;
 use path_algebra::{Element, Header, Relation, Rule, Step, Term};
+use path_reduction::ShortPaths;
 use quiver_paths::{Arrow, Name, Path, Quiver, paths_below};
 use seq::Seq;
 use std::alloc::{AllocError, Global};
@@ -133,7 +135,8 @@ fn one_loop(alloc: Global) -> Result<Header, Fail>
 fn two_loops(alloc: Global, bound: u32) -> Result<Header, Fail>
     requires low { 2 ≤ bound }
     requires high { bound ≤ 32 }
-    ensures { IfOk result IsAllowed }
+    ensures loops { IfOk result IsTwoLoops }
+    ensures bound { IfOk result (λ h. h.bound ≡ bound) }
 {
     let relations = relation(alloc, &[1, 1], &[0, 0])?;
     let header = one_vertex(alloc, 2, x_and_y(alloc)?, bound, relations)?;
@@ -271,5 +274,30 @@ fn no_gap_of_a_square(rt: HostRuntime) -> Result<(), Fail> {
     let _paths = paths_below(alloc, &header.quiver, header.bound, 4096)?;
     let rules = rule(alloc, &[0, 0], Seq::new(alloc))?;
     assert!(rt; first_gap(alloc, &header, &rules)?.is_none());
+    Ok(())
+}
+
+#[test]
+fn gap_of_two_squares(rt: HostRuntime) -> Result<(), Fail> {
+    let alloc = rt.alloc();
+    let header = two_loops(alloc, 4)?;
+    let _paths = paths_below(alloc, &header.quiver, header.bound, 4096)?;
+    let rules = rule(alloc, &[1, 1], multiple(alloc, 1, &[0, 0])?)?;
+    let gap = first_gap(alloc, &header, &rules)?.ok_or("no gap")?;
+    assert_eq!(rt; gap.path, path(alloc, &[1, 1, 1])?);
+    assert_eq!(rt; (gap.rule, gap.at), (1, 1));
+    Ok(())
+}
+
+#[test]
+fn no_gap_of_completed_rules(rt: HostRuntime) -> Result<(), Fail> {
+    let alloc = rt.alloc();
+    let header = two_loops(alloc, 4)?;
+    let _paths = paths_below(alloc, &header.quiver, header.bound, 4096)?;
+    let space = ShortPaths::new(alloc, &header)?;
+    let mut state = from_relations(alloc, &header, &space)?;
+    complete(alloc, &header, &space, &mut state)?;
+    assert_eq!(rt; state.rules.len(), 2);
+    assert!(rt; first_gap(alloc, &header, &state.rules)?.is_none());
     Ok(())
 }

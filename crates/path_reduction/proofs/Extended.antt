@@ -25,6 +25,7 @@ use Rattle.path_algebra.proofs.ElementLemmas.{path_element-self, path_element-ot
 use Rattle.path_algebra.proofs.Reducing.{AreRules, becomes_below}
 use Rattle.path_algebra.proofs.Congruence.{product-between_terms}
 use Rattle.path_reduction.specs.Gaps.{IsTidy, AreTidy, reduced_terms}
+pub use Rattle.path_reduction.specs.Reducing.{extended}
 
 -- what is known of tidy rules
 pub tidy_rules : (h : Header) (rules : List Rule) → IsAllowed h → AreTidy h rules → AreRules h rules
@@ -34,10 +35,6 @@ tidy_rules h rules ok tidy = record {
   tails = All-weaker (IsTidy h) (λ (r : Rule). AreElementTerms h r.tail.terms) (λ r t. t.tail) rules tidy.each;
   greater = All-weaker (IsTidy h) (λ (r : Rule). All (λ (a : Term). IsSmaller a.path r.tip) r.tail.terms) (λ r t. t.smaller) rules tidy.each;
 }
-
--- what an element becomes
-unfoldable pub extended : Header → (Path → Path → ℕ) → (Path → ℕ) → Path → ℕ
-extended h becomes x r = sum_over h.field (paths_below h.quiver h.bound) (λ p. mul h.field (x p) (becomes p r))
 
 pub extended-linear : (h : Header) (becomes : Path → Path → ℕ) → IsLinear h.field (extended h becomes)
 unfolding extended

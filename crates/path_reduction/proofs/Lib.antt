@@ -3,6 +3,10 @@ pub mod Sides
 pub mod TermSums
 pub mod TipStands
 pub mod Deriving
+pub mod PathPlaces
+pub mod Walks
+pub mod DenseElements
+pub mod DenseSteps
 pub mod Rewriting
 pub mod Closing
 pub mod Scaled

@@ -1,11 +1,9 @@
 -- Coefficients of sums of descending terms, and paths of sums.
-use Rattle.std.proofs.Common.{ℕ, ◌≡◌, ◌≢◌, ◌<◌, inl, inr, List, [], ◌∷◌, sym, ap, ap₂, ◌∙◌, subst, arith}
+use Rattle.std.proofs.Common.{◌≡◌, ◌≢◌, ◌<◌, inl, inr, List, [], ◌∷◌, sym, ap, ◌∙◌, subst, arith}
 use Rattle.std.specs.Prelude.{Contains}
-use Rattle.std.proofs.lemmas.Bool.{cases_eq}
 use Rattle.std.proofs.lemmas.List.Elements.{All-contains}
 use Rattle.linear_algebra.specs.Field.{add, mul}
-use Rattle.linear_algebra.specs.FieldLaws.{mul_zero, add_zero_zero, zero_add}
-use Rattle.quiver_paths.specs.declared.Path.{Path}
+use Rattle.linear_algebra.specs.FieldLaws.{mul_zero, zero_add}
 use Rattle.quiver_paths.specs.PathOrder.{IsSmaller}
 use Rattle.quiver_paths.proofs.ListLemmas.{Contains-cons_cases, Contains-nil}
 use Rattle.quiver_paths.proofs.PathOrderLemmas.{IsSmaller-irreflexive}
@@ -13,10 +11,8 @@ use Rattle.path_algebra.specs.declared.Term.{Term}
 use Rattle.path_algebra.specs.declared.Header.{Header}
 use Rattle.path_algebra.specs.Elements.{sum_of_terms}
 use Rattle.path_algebra.specs.Rules.{AreElementTerms}
-use Rattle.path_algebra.specs.ElementTerms.{AreTermsOf, plus_multiple}
 use Rattle.path_algebra.proofs.ElementLemmas.{path_element-other, sum_of_terms-below}
 use Rattle.path_algebra.proofs.TermLists.{sum_of_terms-cons, sum_of_terms-head, AreElementTerms-tail, AreElementTerms-below}
-use Rattle.path_algebra.proofs.ClausesSuffice.{term_at}
 
 -- the coefficient at the path of a term
 pub sum_at_term : (h : Header) (terms : List Term) → AreElementTerms h terms → (y : Term) → Contains terms y → sum_of_terms h.field h.bound terms y.path ≡ y.coef
@@ -34,14 +30,3 @@ sum_at_term h (x ∷ xs) are y m = elim (Contains-cons_cases x xs y m) [
 -- a term's coefficient is not zero
 pub term_nonzero : (h : Header) (terms : List Term) → AreElementTerms h terms → (y : Term) → Contains terms y → sum_of_terms h.field h.bound terms y.path ≢ 0
 term_nonzero h terms are y m e = let n = All-contains (λ (a : Term). 0 < a.coef) terms y are.nonzero m in omega (arith, n, sym (sum_at_term h terms are y m) ∙ e)
-
--- the paths of a sum are paths of its parts
-pub path_of_sum : (h : Header) (xs : List Term) (c : ℕ) (ys zs : List Term) → AreTermsOf h (plus_multiple h.field (sum_of_terms h.field h.bound xs) c (sum_of_terms h.field h.bound ys)) zs
-    → (P : Path → Type 0) → ((a : Term) → Contains xs a → P a.path) → ((a : Term) → Contains ys a → P a.path) → (z : Term) → Contains zs z → P z.path
-path_of_sum h xs c ys zs of P px py z m = elim (cases_eq (sum_of_terms h.field h.bound xs z.path) 0) [
-  | inr n ↦ let a = term_at h.field h.bound xs z.path n in subst P a.2 (px a.0 a.1)
-  | inl e ↦ elim (cases_eq (sum_of_terms h.field h.bound ys z.path) 0) [
-    | inr n ↦ let a = term_at h.field h.bound ys z.path n in subst P a.2 (py a.0 a.1)
-    | inl f ↦ absurd (term_nonzero h zs of.are z m (of.value z.path ∙ ap₂ (λ a b. add h.field a (mul h.field c b)) e f ∙ ap (add h.field 0) (mul_zero h.field c) ∙ add_zero_zero h.field))
-  ]
-]

@@ -1,5 +1,6 @@
 pub mod Gaps
 pub mod Occurrences
+pub mod ShortPaths
 pub mod Derived
 pub mod Reducing
 pub mod FirstGaps

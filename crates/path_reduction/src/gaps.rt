@@ -10,6 +10,7 @@ ghost use Rattle.path_reduction.specs.Occurrences.{StandsAt};
 ghost use Rattle.path_reduction.specs.FirstGaps.{ClosesAt, ClosesBefore, ClosesAll, IsFirstGapIn, IsFirstGap, ClosesTo, ForReductions, IsBecome, IsOpenAt};
 
 use crate::reducing::{Derived, reduce, tail_between};
+use crate::short_paths::ShortPaths;
 use path_algebra::{Header, Rule, Term, tip_place};
 use quiver_paths::{Path, PathError, paths_below};
 use std::alloc::{AllocError, Global};
@@ -34,8 +35,9 @@ pub fn first_gap(alloc: Global, header: &Header, rules: &[Rule]) -> Result<Optio
     ensures { IfOk result (λ found. MatchOption found (ForReductions header.now rules.now (HasNoGap header.now rules.now))
         (λ gap. ForReductions header.now rules.now (λ becomes. IsFirstGap header.now rules.now becomes gap))) }
 {
+    let space = ShortPaths::new(alloc, header)?;
     let paths = paths_to_bound(alloc, header)?;
-    let found = first_gap_among(alloc, header, rules, &paths)?;
+    let found = first_gap_among(alloc, header, &space, rules, &paths)?;
     Ok(found)
 }
 
@@ -59,11 +61,13 @@ fn paths_to_bound(alloc: Global, header: &Header) -> Result<Vec<Path>, AllocErro
 fn first_gap_among(
     alloc: Global,
     header: &Header,
+    space: &ShortPaths,
     rules: &[Rule],
     paths: &[Path],
 ) -> Result<Option<Gap>, AllocError>
     requires allowed { IsAllowed header.now }
     requires few { path_count header.now.quiver header.now.bound ≤ 4096 }
+    requires space { ListsPathsBelow header.now.quiver header.now.bound space.now }
     requires tidy { AreTidy header.now rules.now }
     requires rules { length rules.now < 2 ^ 32 }
     requires paths { ListsPathsBelow header.now.quiver (header.now.bound + 1) paths.now }
@@ -71,7 +75,7 @@ fn first_gap_among(
         (λ gap. ForReductions header.now rules.now (λ becomes. IsFirstGap header.now rules.now becomes gap))) }
 {
     for path in paths {
-        if let Some(gap) = first_gap_in(alloc, header, rules, path)? {
+        if let Some(gap) = first_gap_in(alloc, header, space, rules, path)? {
             return Ok(Some(gap));
         }
     }
@@ -82,11 +86,13 @@ fn first_gap_among(
 fn first_gap_in(
     alloc: Global,
     header: &Header,
+    space: &ShortPaths,
     rules: &[Rule],
     path: &Path,
 ) -> Result<Option<Gap>, AllocError>
     requires allowed { IsAllowed header.now }
     requires few { path_count header.now.quiver header.now.bound ≤ 4096 }
+    requires space { ListsPathsBelow header.now.quiver header.now.bound space.now }
     requires tidy { AreTidy header.now rules.now }
     requires rules { length rules.now < 2 ^ 32 }
     requires path { IsPath header.now.quiver path.now }
@@ -94,9 +100,9 @@ fn first_gap_in(
     ensures { IfOk result (λ found. MatchOption found (ForReductions header.now rules.now (λ becomes. ClosesAll header.now rules.now becomes path.now))
         (λ gap. ForReductions header.now rules.now (λ becomes. IsFirstGapIn header.now rules.now becomes path.now gap))) }
 {
-    let whole = become_of(alloc, header, rules, path)?;
+    let whole = become_of(alloc, header, space, rules, path)?;
     for at in 0..path.arrows.len() {
-        if let Some(rule) = open_rule_at(alloc, header, rules, path, at, &whole)? {
+        if let Some(rule) = open_rule_at(alloc, header, space, rules, path, at, &whole)? {
             let path = path.clone()?;
             return Ok(Some(Gap {
                 path,
@@ -112,6 +118,7 @@ fn first_gap_in(
 fn open_rule_at(
     alloc: Global,
     header: &Header,
+    space: &ShortPaths,
     rules: &[Rule],
     path: &Path,
     at: usize,
@@ -119,6 +126,7 @@ fn open_rule_at(
 ) -> Result<Option<usize>, AllocError>
     requires allowed { IsAllowed header.now }
     requires few { path_count header.now.quiver header.now.bound ≤ 4096 }
+    requires space { ListsPathsBelow header.now.quiver header.now.bound space.now }
     requires tidy { AreTidy header.now rules.now }
     requires path { IsPath header.now.quiver path.now }
     requires short { path_length path.now ≤ header.now.bound }
@@ -128,7 +136,7 @@ fn open_rule_at(
         (IsOpenAt header.now rules.now path.now at)) }
 {
     for last in at..path.arrows.len() {
-        if let Some(place) = open_rule_to(alloc, header, rules, path, at, last + 1, whole)? {
+        if let Some(place) = open_rule_to(alloc, header, space, rules, path, at, last + 1, whole)? {
             return Ok(Some(place));
         }
     }
@@ -139,6 +147,7 @@ fn open_rule_at(
 fn open_rule_to(
     alloc: Global,
     header: &Header,
+    space: &ShortPaths,
     rules: &[Rule],
     path: &Path,
     at: usize,
@@ -147,6 +156,7 @@ fn open_rule_to(
 ) -> Result<Option<usize>, AllocError>
     requires allowed { IsAllowed header.now }
     requires few { path_count header.now.quiver header.now.bound ≤ 4096 }
+    requires space { ListsPathsBelow header.now.quiver header.now.bound space.now }
     requires tidy { AreTidy header.now rules.now }
     requires path { IsPath header.now.quiver path.now }
     requires short { path_length path.now ≤ header.now.bound }
@@ -159,7 +169,7 @@ fn open_rule_to(
     match tip_place(rules, &arrows[at..end]) {
         None => Ok(None),
         Some(place) => {
-            let closed = closes(alloc, header, rules, &rules[place], path, at, whole)?;
+            let closed = closes(alloc, header, space, rules, &rules[place], path, at, whole)?;
             if closed { Ok(None) } else { Ok(Some(place)) }
         }
     }
@@ -169,6 +179,7 @@ fn open_rule_to(
 fn closes(
     alloc: Global,
     header: &Header,
+    space: &ShortPaths,
     rules: &[Rule],
     rule: &Rule,
     path: &Path,
@@ -177,6 +188,7 @@ fn closes(
 ) -> Result<bool, AllocError>
     requires allowed { IsAllowed header.now }
     requires few { path_count header.now.quiver header.now.bound ≤ 4096 }
+    requires space { ListsPathsBelow header.now.quiver header.now.bound space.now }
     requires tidy { AreTidy header.now rules.now }
     requires rule { IsTidy header.now rule.now }
     requires path { IsPath header.now.quiver path.now }
@@ -188,7 +200,14 @@ fn closes(
 {
     let terms = tail_between(alloc, header, rule, path, at)?;
     let mut steps = Vec::new(alloc);
-    let other = reduce(alloc, header, rules, &mut steps, Derived { terms, step: 0 })?;
+    let other = reduce(
+        alloc,
+        header,
+        space,
+        rules,
+        &mut steps,
+        Derived { terms, step: 0 },
+    )?;
     let same = are_same(&other.terms, whole);
     Ok(same)
 }
@@ -212,11 +231,13 @@ fn are_same(a: &[Term], b: &[Term]) -> bool
 fn become_of(
     alloc: Global,
     header: &Header,
+    space: &ShortPaths,
     rules: &[Rule],
     path: &Path,
 ) -> Result<Vec<Term>, AllocError>
     requires allowed { IsAllowed header.now }
     requires few { path_count header.now.quiver header.now.bound ≤ 4096 }
+    requires space { ListsPathsBelow header.now.quiver header.now.bound space.now }
     requires tidy { AreTidy header.now rules.now }
     requires path { IsPath header.now.quiver path.now }
     ensures { IfOk result (λ terms. IsBecome header.now rules.now path.now terms.items) }
@@ -230,6 +251,13 @@ fn become_of(
         path: path.clone()?,
     })?;
     let mut steps = Vec::new(alloc);
-    let reduced = reduce(alloc, header, rules, &mut steps, Derived { terms, step: 0 })?;
+    let reduced = reduce(
+        alloc,
+        header,
+        space,
+        rules,
+        &mut steps,
+        Derived { terms, step: 0 },
+    )?;
     Ok(reduced.terms)
 }

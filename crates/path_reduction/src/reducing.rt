@@ -1,23 +1,26 @@
 //! Reduction of elements by rules, each step of it derived.
-ghost use Rattle.std.specs.Prelude.{ℕ, ◌≡◌, ◌<◌, ◌≤◌, ◌+◌, ◌^◌, ◌++◌, ◌∷◌, [], List, length, IfOk, OnOk};
+ghost use Rattle.std.specs.Prelude.{ℕ, ◌≡◌, ◌≢◌, ◌<◌, ◌≤◌, ◌+◌, ◌^◌, List, length, slice_index, IfOk, OnOk};
 ghost use Rattle.linear_algebra.specs.Field.{order, neg};
 ghost use Rattle.quiver_paths.specs.declared.Path.{Path};
 ghost use Rattle.quiver_paths.specs.Path.{IsPath, path_length};
-ghost use Rattle.quiver_paths.specs.PathList.{path_count};
+ghost use Rattle.quiver_paths.specs.PathList.{path_count, ListsPathsBelow};
+ghost use Rattle.linear_algebra.specs.Rows.{IsRow};
 ghost use Rattle.path_algebra.specs.declared.Term.{Term};
 ghost use Rattle.path_algebra.specs.Allowed.{IsAllowed};
 ghost use Rattle.path_algebra.specs.Elements.{sum_of_terms};
-ghost use Rattle.path_algebra.specs.Words.{IsShortPath};
+ghost use Rattle.path_algebra.specs.Rows.{path_at};
 ghost use Rattle.path_algebra.specs.Rules.{AreElementTerms, rule_element};
-ghost use Rattle.path_algebra.specs.ElementTerms.{terms_behind, terms_before, AreTermsOf, AreBelow};
+ghost use Rattle.path_algebra.specs.ElementTerms.{terms_behind, terms_before};
 ghost use Rattle.path_reduction.specs.Gaps.{IsTidy, AreTidy};
 ghost use Rattle.path_reduction.specs.Occurrences.{StandsAt, part_before, part_behind};
 ghost use Rattle.path_reduction.specs.Derived.{Derives, Lengthens, AreDerived, plus_rule};
-ghost use Rattle.path_reduction.specs.Reducing.{AreReducedTo, IsReducing, total, beside, places_left, rewritten_rest};
+ghost use Rattle.path_reduction.specs.Reducing.{AreReducedTo, IsReducing, IsRewritten, IsAdded, beside, row_element, tail_at};
 
+use crate::dense::{add_products, coefs_of, last_place, terms_of};
 use crate::making::derive_rewriting;
 use crate::occurrences::first_occurrence;
-use path_algebra::{Header, Rule, Step, Term, plus_multiple, terms_before, terms_behind};
+use crate::short_paths::ShortPaths;
+use path_algebra::{Header, Rule, Step, Term, terms_before, terms_behind};
 use quiver_paths::Path;
 use seq::Seq;
 use std::alloc::{AllocError, Global};
@@ -29,20 +32,30 @@ pub struct Derived {
     pub step: u32,
 }
 
+/// An element by its coefficients at the short paths, and the number of the step that makes it, counted from 1.
+#[derive(Drop)]
+struct Dense {
+    coefs: Vec<u8>,
+    step: u32,
+}
+
 /// What an element becomes by reduction by the rules, in which no tip occurs, and its derivation: at most 131,072 steps are added behind those that
-/// are there. Where the given step makes another element beside the given one, so does the last step beside what it becomes.
+/// are there. Where the given step makes another element beside the given one, so does the last step beside what it becomes. The short paths are
+/// those of the header.
 ///
 /// The rules are tidy; steps that do not derive them and the element may be given, and then only the terms of the answer tell something.
 /// `AllocError` comes for want of memory; steps may have been added then.
 pub fn reduce(
     alloc: Global,
     header: &Header,
+    space: &ShortPaths,
     rules: &[Rule],
     steps: &mut Vec<Step>,
     given: Derived,
 ) -> Result<Derived, AllocError>
     requires allowed { IsAllowed header.now }
     requires few { path_count header.now.quiver header.now.bound ≤ 4096 }
+    requires space { ListsPathsBelow header.now.quiver header.now.bound space.now }
     requires tidy { AreTidy header.now rules.now }
     requires terms { AreElementTerms header.now given.terms.items }
     requires room { length steps.old.items + 131072 < 2 ^ 32 }
@@ -53,92 +66,127 @@ pub fn reduce(
         → Derives header.now steps.old.items given.step (beside header.now x (sum_of_terms header.now.field header.now.bound given.terms.items))
         → Derives header.now steps.new.items d.step (beside header.now x (sum_of_terms header.now.field header.now.bound d.terms.items))) }
 {
-    let mut done = Vec::new(alloc);
-    let mut rest = given;
-    while !rest.terms.is_empty() {
-        rest = take_greatest(alloc, header, rules, steps, &mut done, rest)?;
+    let coefs = coefs_of(alloc, header, space, &given.terms)?;
+    let mut element = Dense {
+        coefs,
+        step: given.step,
+    };
+    let mut end = space.len();
+    while let Some(place) = last_place(&element.coefs, end) {
+        element = reduce_at(header, space, rules, steps, place, element)?;
+        end = place;
     }
+    let terms = terms_of(alloc, space, &element.coefs)?;
     Ok(Derived {
-        terms: done,
-        step: rest.step,
+        terms,
+        step: element.step,
     })
 }
 
-/// Adds the greatest term of the rest to what is done, or rewrites the first tip in it.
-fn take_greatest(
-    alloc: Global,
+/// The element, once the first tip in the path at a place is rewritten, if the path has a tip.
+fn reduce_at(
     header: &Header,
+    space: &ShortPaths,
     rules: &[Rule],
     steps: &mut Vec<Step>,
-    done: &mut Vec<Term>,
-    rest: Derived,
-) -> Result<Derived, AllocError>
+    place: usize,
+    element: Dense,
+) -> Result<Dense, AllocError>
     requires allowed { IsAllowed header.now }
+    requires space { ListsPathsBelow header.now.quiver header.now.bound space.now }
     requires tidy { AreTidy header.now rules.now }
-    requires terms { AreElementTerms header.now rest.terms.items }
-    requires some { 0 < length rest.terms.items }
+    requires place { place < length space.now }
+    requires row { IsRow header.now.field (length space.now) element.coefs.items }
+    requires nonzero { slice_index element.coefs.items place ≢ 0 }
     requires room { length steps.old.items + 32 < 2 ^ 32 }
-    ensures reducing { IfOk result (λ next. (given : List Term) → IsReducing header.now rules.now given done.old.items rest.terms.items → IsReducing header.now rules.now given done.new.items next.terms.items) }
-    ensures fewer { IfOk result (λ next. places_left header.now next.terms.items < places_left header.now rest.terms.items) }
+    ensures reducing { IfOk result (λ next. (given : List Term) → IsReducing header.now rules.now given space.now element.coefs.items (place + 1)
+        → IsReducing header.now rules.now given space.now next.coefs.items place) }
     ensures count { OnOk result (length steps.new.items ≤ length steps.old.items + 32) }
     ensures lengthens { OnOk result (Lengthens steps.old.items steps.new.items) }
     ensures makes { IfOk result (λ next. (x : Path → ℕ) → AreDerived header.now steps.old.items rules.now
-        → Derives header.now steps.old.items rest.step (beside header.now x (total header.now done.old.items rest.terms.items))
-        → Derives header.now steps.new.items next.step (beside header.now x (total header.now done.new.items next.terms.items))) }
+        → Derives header.now steps.old.items element.step (beside header.now x (row_element header.now space.now element.coefs.items))
+        → Derives header.now steps.new.items next.step (beside header.now x (row_element header.now space.now next.coefs.items))) }
 {
-    let mut left = rest;
-    let greatest = left.terms.remove(0);
-    match first_occurrence(rules, greatest.path.arrows.as_slice()) {
-        None => {
-            done.push(greatest)?;
-            Ok(left)
-        }
+    match first_occurrence(rules, space.path(place).arrows.as_slice()) {
+        None => Ok(element),
         Some(found) => {
             let rule = &rules[found.rule];
-            let next = rewrite(alloc, header, rule, steps, &greatest, found.before, left)?;
+            let next = rewrite(header, space, rule, steps, place, found.before, element)?;
             Ok(next)
         }
     }
 }
 
-/// The rest, once the rule's tip in the greatest term is rewritten.
+/// The element, once the rule's tip in the path at a place is rewritten.
 fn rewrite(
-    alloc: Global,
     header: &Header,
+    space: &ShortPaths,
     rule: &Rule,
     steps: &mut Vec<Step>,
-    greatest: &Term,
+    place: usize,
     before: usize,
-    rest: Derived,
-) -> Result<Derived, AllocError>
+    element: Dense,
+) -> Result<Dense, AllocError>
     requires allowed { IsAllowed header.now }
+    requires space { ListsPathsBelow header.now.quiver header.now.bound space.now }
     requires tidy { IsTidy header.now rule.now }
-    requires nonzero { 0 < greatest.now.coef }
-    requires small { greatest.now.coef < order header.now.field }
-    requires path { IsShortPath header.now greatest.now.path }
-    requires stands { StandsAt rule.now greatest.now.path.arrows before }
-    requires terms { AreElementTerms header.now rest.terms.items }
-    requires below { AreBelow rest.terms.items greatest.now.path }
+    requires place { place < length space.now }
+    requires stands { StandsAt rule.now (path_at space.now place).arrows before }
+    requires row { IsRow header.now.field (length space.now) element.coefs.items }
+    requires nonzero { slice_index element.coefs.items place ≢ 0 }
     requires room { length steps.old.items + 32 < 2 ^ 32 }
-    ensures terms { IfOk result (λ next. AreTermsOf header.now (rewritten_rest header.now greatest.now rest.terms.items rule.now before) next.terms.items) }
-    ensures below { IfOk result (λ next. AreBelow next.terms.items greatest.now.path) }
+    ensures rewritten { IfOk result (λ next. IsRewritten header.now space.now rule.now place before element.coefs.items next.coefs.items) }
     ensures count { OnOk result (length steps.new.items ≤ length steps.old.items + 32) }
     ensures lengthens { OnOk result (Lengthens steps.old.items steps.new.items) }
-    ensures makes { IfOk result (λ next. (x : Path → ℕ) → Derives header.now steps.old.items rule.now.step (rule_element header.now rule.now) → Derives header.now steps.old.items rest.step x
-        → Derives header.now steps.new.items next.step (plus_rule header.now x (neg header.now.field greatest.now.coef) rule.now greatest.now.path before)) }
+    ensures makes { IfOk result (λ next. (x : Path → ℕ) → Derives header.now steps.old.items rule.now.step (rule_element header.now rule.now) → Derives header.now steps.old.items element.step x
+        → Derives header.now steps.new.items next.step (plus_rule header.now x (neg header.now.field (slice_index element.coefs.items place)) rule.now (path_at space.now place) before)) }
 {
-    let tail = tail_between(alloc, header, rule, &greatest.path, before)?;
-    let terms = plus_multiple(alloc, header, &rest.terms, greatest.coef, &tail)?;
-    let step = derive_rewriting(
-        header,
-        steps,
-        rest.step,
-        greatest.coef,
-        rule,
-        &greatest.path,
-        before,
-    )?;
-    Ok(Derived { terms, step })
+    let path = space.path(place);
+    let mut coefs = element.coefs;
+    let factor = coefs[place];
+    coefs[place] = 0;
+    add_tail(header, space, rule, place, before, factor, &mut coefs);
+    let step = derive_rewriting(header, steps, element.step, factor, rule, path, before)?;
+    Ok(Dense { coefs, step })
+}
+
+/// Adds a multiple of the rule's tail, between what stands before its tip in the path at a place and what stands behind it.
+fn add_tail(
+    header: &Header,
+    space: &ShortPaths,
+    rule: &Rule,
+    place: usize,
+    before: usize,
+    factor: u8,
+    coefs: &mut [u8],
+)
+    requires allowed { IsAllowed header.now }
+    requires space { ListsPathsBelow header.now.quiver header.now.bound space.now }
+    requires tidy { IsTidy header.now rule.now }
+    requires place { place < length space.now }
+    requires stands { StandsAt rule.now (path_at space.now place).arrows before }
+    requires factor { factor < order header.now.field }
+    requires row { IsRow header.now.field (length space.now) coefs.old }
+    ensures { IsAdded header.now space.now (tail_at header.now factor rule.now (path_at space.now place) before) (path_at space.now place) coefs.old coefs.new }
+{
+    let arrows = space.path(place).arrows.as_slice();
+    let behind = &arrows[before + rule.tip.arrows.len()..];
+    match space.walk(space.start(place), &arrows[..before]) {
+        None => {
+            prove!(false);
+        }
+        Some(first) => {
+            add_products(
+                header,
+                space,
+                factor,
+                first,
+                rule.tail.terms.as_slice(),
+                behind,
+                coefs,
+            );
+        }
+    }
 }
 
 /// The terms of the rule's tail, between what stands before its tip in the path and what stands behind it.

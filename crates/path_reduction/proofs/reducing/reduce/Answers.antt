@@ -1,58 +1,59 @@
-use Rattle.std.proofs.Common.{◌≡◌, ◌≢◌, ◌∙◌, sym, ap, subst, arith, length}
-use Rattle.std.specs.Prelude.{vec_len}
-use Rattle.std.proofs.lemmas.Bool.{eqb-true, eqb-false}
+use Rattle.std.proofs.Common.{◌+◌, length, sym, ap, subst, arith}
 use Rattle.linear_algebra.specs.Field.{add}
+use Rattle.linear_algebra.specs.Rows.{IsRow}
 use Rattle.path_algebra.specs.Elements.{sum_of_terms}
-use Rattle.path_reduction.specs.Reducing.{IsReducing, total, beside}
+use Rattle.path_algebra.specs.ElementTerms.{AreTermsOf}
+use Rattle.path_reduction.specs.Reducing.{HoldsElement, AreZeros, IsLastPlace, row_element}
 use Rattle.path_reduction.proofs.Deriving.{derives_same, still_derived, Lengthens-same, Lengthens-trans}
-use Rattle.path_reduction.proofs.Rewriting.{reducing_begins, reducing_ends, places_left-le, places_left-pos, total-none, total-done}
+use Rattle.path_reduction.proofs.PathPlaces.{few_listed}
+use Rattle.path_reduction.proofs.DenseSteps.{reducing_begins, reducing_down, reducing_ends}
 use Rattle.path_reduction.proofs.reducing.reduce.Goals as goal
 
-pub loop-alloc-init : goal.loop-alloc-init
-loop-alloc-init c =
+pub loop-place-init : goal.loop-place-init
+loop-place-init c =
     let h = c.args.header.now in
+    let few = few_listed h.quiver h.bound c.args.space.now c.requires.space c.requires.allowed.quiver.ends c.requires.few in
+    let holds = subst (λ ts. HoldsElement h c.args.space.now (sum_of_terms h.field h.bound ts) c.in_ok-coefs.coefs.items) c.deref.ensures.value c.in_ok-coefs.ensures in
     record {
-      reducing = subst (λ d. IsReducing h c.args.rules.now c.args.given.terms.items d c.args.given.terms.items) (sym c.new-done.ensures.items) (reducing_begins h c.args.rules.now c.args.given.terms.items c.requires.terms);
-      count = (let l = places_left-le h c.args.given.terms.items c.requires.allowed c.requires.terms in let f = c.requires.few in omega arith);
+      reducing = reducing_begins h c.args.rules.now c.args.given.terms.items c.args.space.now c.in_ok-coefs.coefs.items _ c.requires.allowed c.requires.tidy c.requires.terms (omega (arith, c.len-end.ensures)) holds;
+      within = omega (arith, c.len-end.ensures);
+      count = omega (arith, few, c.len-end.ensures);
       lengthens = Lengthens-same c.args.steps.now.items;
-      makes = λ x from d. derives_same h c.args.steps.now.items c.args.given.step (beside h x (sum_of_terms h.field h.bound c.args.given.terms.items)) _
-          (λ p. ap (add h.field (x p)) (total-none h c.args.given.terms.items p ∙ ap (λ ts. total h ts c.args.given.terms.items p) (sym c.new-done.ensures.items))) d;
+      makes = λ x from d. derives_same h c.args.steps.now.items c.args.given.step _ _ (λ p. ap (add h.field (x p)) (sym (holds.value p))) d;
     }
 
-pub take_greatest-requires-clause-terms : goal.take_greatest-requires-clause-terms
-take_greatest-requires-clause-terms c = c.loop-alloc.invariant.reducing.rest_are
-
-pub take_greatest-requires-clause-some : goal.take_greatest-requires-clause-some
-take_greatest-requires-clause-some c =
-    let n : vec_len c.loop-alloc.rest.terms ≢ 0 = eqb-false _ 0 (sym c.is_empty.ensures ∙ c.loop-alloc-test.true) in
-    omega (arith, n, c.loop-alloc.rest.terms.ok.0)
-
-pub take_greatest-requires-clause-room : goal.take_greatest-requires-clause-room
-take_greatest-requires-clause-room c =
-    let n : vec_len c.loop-alloc.rest.terms ≢ 0 = eqb-false _ 0 (sym c.is_empty.ensures ∙ c.loop-alloc-test.true) in
-    let k = places_left-pos c.args.header.now c.loop-alloc.rest.terms.items (omega (arith, n, c.loop-alloc.rest.terms.ok.0)) in
-    let i = c.loop-alloc.invariant.count in
-    let r = c.requires.room in
-    omega arith
-
-pub loop-alloc-preserved : goal.loop-alloc-preserved
-loop-alloc-preserved c = record {
-  reducing = c.in_ok-rest.ensures.reducing c.args.given.terms.items c.loop-alloc.invariant.reducing;
-  count = (let i = c.loop-alloc.invariant.count in let f = c.in_ok-rest.ensures.fewer in let k = c.in_ok-rest.ensures.count in omega arith);
-  lengthens = Lengthens-trans c.args.steps.now.items c.loop-alloc.steps.items c.take_greatest.new.steps.items c.loop-alloc.invariant.lengthens c.in_ok-rest.ensures.lengthens;
-  makes = λ x from d.
-      let before = c.loop-alloc.invariant.makes x from d in
-      c.in_ok-rest.ensures.makes x (still_derived c.args.header.now c.args.steps.now.items c.loop-alloc.steps.items c.args.rules.now c.loop-alloc.invariant.lengthens before.lawful from) before;
-}
-
-pub returns : goal.returns
-returns c =
+pub loop-place-preserved : goal.loop-place-preserved
+loop-place-preserved c =
     let h = c.args.header.now in
-    let n : vec_len c.loop-alloc.rest.terms ≡ 0 = eqb-true _ 0 (sym c.is_empty.ensures ∙ c.loop-alloc-test.false) in
-    let none : length c.loop-alloc.rest.terms.items ≡ 0 = omega (arith, n, c.loop-alloc.rest.terms.ok.0) in
+    let rules = c.args.rules.now in
+    let given = c.args.given.terms.items in
+    let row = c.loop-place.element.coefs.items in
+    let i = c.loop-place.invariant in
+    let last = subst (λ cs. IsLastPlace cs c.loop-place.end c.in-Some.place) c.deref-in-loop-place.ensures.value c.in-Some.ensures in
     record {
-      reduced = reducing_ends h c.args.rules.now c.args.given.terms.items c.loop-alloc.done.items c.loop-alloc.rest.terms.items c.requires.allowed c.requires.tidy c.loop-alloc.invariant.reducing none;
-      count = (let i = c.loop-alloc.invariant.count in omega arith);
-      lengthens = c.loop-alloc.invariant.lengthens;
-      makes = λ x from d. derives_same h c.loop-alloc.steps.items c.loop-alloc.rest.step _ _ (λ p. ap (add h.field (x p)) (total-done h c.loop-alloc.done.items c.loop-alloc.rest.terms.items none p)) (c.loop-alloc.invariant.makes x from d);
+      reducing = c.in_ok-element.ensures.reducing given (reducing_down h rules given c.args.space.now row c.loop-place.end (c.in-Some.place + 1) last.zeros i.reducing);
+      within = omega (arith, last.inside, i.within);
+      count = omega (arith, last.inside, i.count, c.in_ok-element.ensures.count);
+      lengthens = Lengthens-trans c.args.steps.now.items c.loop-place.steps.items c.reduce_at.new.steps.items i.lengthens c.in_ok-element.ensures.lengthens;
+      makes = λ x from d.
+          let before = i.makes x from d in
+          c.in_ok-element.ensures.makes x (still_derived h c.args.steps.now.items c.loop-place.steps.items rules i.lengthens before.lawful from) before;
     }
+
+pub returns-clause-reduced : goal.returns-clause-reduced
+returns-clause-reduced c =
+    let h = c.args.header.now in
+    let i = c.loop-place.invariant in
+    let row = c.loop-place.element.coefs.items in
+    let of = subst (λ cs. AreTermsOf h (row_element h c.args.space.now cs) c.in_ok-terms.terms.items) c.deref-2.ensures.value
+    (c.in_ok-terms.ensures h c.requires.space (subst (IsRow h.field (length c.args.space.now)) (sym c.deref-2.ensures.value) i.reducing.row_is)) in
+    reducing_ends h c.args.rules.now c.args.given.terms.items c.args.space.now row c.loop-place.end c.in_ok-terms.terms.items c.requires.allowed c.requires.tidy c.requires.space
+    (subst (λ cs. AreZeros cs 0 c.loop-place.end) c.deref-in-loop-place.ensures.value c.in_default.ensures) i.reducing of
+
+pub returns-clause-makes : goal.returns-clause-makes
+returns-clause-makes c x from d =
+    let h = c.args.header.now in
+    let i = c.loop-place.invariant in
+    let of = subst (λ cs. AreTermsOf h (row_element h c.args.space.now cs) c.in_ok-terms.terms.items) c.deref-2.ensures.value
+    (c.in_ok-terms.ensures h c.requires.space (subst (IsRow h.field (length c.args.space.now)) (sym c.deref-2.ensures.value) i.reducing.row_is)) in
+    derives_same h c.loop-place.steps.items c.loop-place.element.step _ _ (λ p. ap (add h.field (x p)) (sym (of.value p))) (i.makes x from d)
