@@ -1,4 +1,5 @@
 pub mod WrittenLines
+mod WordLists
 pub mod PathReading
 pub mod StepReading
 pub mod RuleReading

@@ -6,6 +6,7 @@ mod ends;
 mod paths;
 mod rules;
 mod steps;
+mod words;
 mod writing;
 
 pub use counts::only_count;
@@ -13,4 +14,5 @@ pub use ends::{First, read_end, read_first};
 pub use paths::read_word;
 pub use rules::read_rule;
 pub use steps::read_step;
+pub use words::Words;
 pub use writing::{push_basis_line, push_count, push_end, push_rule, push_step, push_word};

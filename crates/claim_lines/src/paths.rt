@@ -11,6 +11,7 @@ ghost use Rattle.claim_lines.specs.Spelling.{word_line};
 ghost use Rattle.claim_lines.specs.Items.{FitsWord};
 ghost use Rattle.claim_lines.specs.Reading.{IsTailTerm};
 
+use crate::words::Words;
 use header_text::{arrow_place, cut_coefficient, read_path, vertex_place};
 use path_algebra::{Header, Term};
 use quiver_paths::{Path, Quiver};
@@ -93,24 +94,12 @@ fn only_path(alloc: Global, quiver: &Quiver, tokens: Parts<'_>) -> Result<Option
     any_path(alloc, quiver, token)
 }
 
-/// Whether no word is the path.
-fn is_new_word(words: &[Path], path: &Path) -> bool
-    ensures { IsTrue result ↔ All (λ (other : Path). other ≢ path.now) words.now }
-{
-    for word in words {
-        if word == path {
-            return false;
-        }
-    }
-    true
-}
-
 /// Reads the tokens of the line of a word, behind the lines of these words: a path that is shorter than the bound.
 /// `Ok(None)`: they spell no such path, or it is one of the words. `Err`: memory is wanting.
 pub fn read_word(
     alloc: Global,
     header: &Header,
-    words: &[Path],
+    words: &Words,
     tokens: Parts<'_>,
 ) -> Result<Option<Path>, AllocError>
     requires { IsNamed header.now.quiver }
@@ -126,7 +115,7 @@ pub fn read_word(
     if path.arrows.len() >= header.bound as usize {
         return Ok(None);
     }
-    if !is_new_word(words, &path) {
+    if !words.lack(&path) {
         return Ok(None);
     }
     Ok(Some(path))

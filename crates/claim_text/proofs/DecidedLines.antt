@@ -1,5 +1,5 @@
 -- Deciding whether a line may follow what has been read of a report.
-use Rattle.std.proofs.Common.{◌≡◌, ℕ, ◌+◌, ◌<◌, ◌≤◌, ◌^◌, Bool, true, false, List, [], ◌∷◌, length, get_or, codes, decimal, ◌⊎◌, inl, inr, Some, None, refl, sym, ap, ◌∙◌, subst, arith, lit<}
+use Rattle.std.proofs.Common.{◌≡◌, ℕ, ◌+◌, ◌<◌, ◌≤◌, ◌^◌, Bool, true, false, List, [], ◌∷◌, length, get_or, codes, decimal, inl, inr, Some, None, refl, sym, ap, ◌∙◌, subst, arith, lit<}
 use Rattle.std.specs.declared.option.Option.{Option}
 use Rattle.text_lines.specs.Strict.{strict_tokens}
 use Rattle.text_lines.proofs.Readings.{Goes}

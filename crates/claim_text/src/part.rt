@@ -1,9 +1,9 @@
 //! What has been read of a report.
 
+use claim_lines::Words;
 use claim_types::End;
 use header_text::HeaderReader;
 use path_algebra::{Rule, Step};
-use quiver_paths::Path;
 use seq::Seq;
 
 /// Where a report stands: before its title, among the lines of its header, before the number of words, among so many words,
@@ -28,7 +28,7 @@ pub struct Part {
     pub front: HeaderReader,
     pub place: Place,
     pub line: u32,
-    pub words: Seq<Path>,
+    pub words: Words,
     pub steps: Seq<Step>,
     pub rules: Seq<Rule>,
     pub end: End,

@@ -6,6 +6,7 @@ ghost use Rattle.claim_text.specs.Texts.{IsTextOf};
 ghost use Rattle.claim_text.specs.Refusals.{IsRefused};
 
 use crate::part::{Part, Place};
+use claim_lines::Words;
 use claim_types::{Claim, End, Record, Report};
 use header_text::HeaderReader;
 use seq::Seq;
@@ -66,7 +67,7 @@ fn start(alloc: Global) -> Part
         front: HeaderReader::new(alloc),
         place: Place::Title,
         line: 0,
-        words: Seq::new(alloc),
+        words: Words::new(alloc),
         steps: Seq::new(alloc),
         rules: Seq::new(alloc),
         end: End::Done,
@@ -89,7 +90,7 @@ fn report_of(alloc: Global, part: Part) -> Result<Report, AllocError>
     let record = Record {
         line,
         claim: Claim::Basis {
-            words,
+            words: words.into_paths(),
             steps,
             rules,
         },

@@ -112,7 +112,7 @@ impl Part {
             ((next : Part) → ¬ Takes (FitsWord self.old.front.header self.old.words) (word_line self.old.front.header.quiver) (with_word self.old n) tokens.entry next)) }
     {
         let header = self.front.header();
-        let Some(word) = read_word(alloc, header, self.words.as_slice(), tokens)? else {
+        let Some(word) = read_word(alloc, header, &self.words, tokens)? else {
             return Ok(false);
         };
         self.words.push(word)?;

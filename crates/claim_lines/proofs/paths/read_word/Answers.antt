@@ -8,9 +8,9 @@ returns-then-len-header c =
     let first = rw c.if-not-take_word.false at c.take_word.ensures in
     no_other_word c.args.header.now c.requires c.args.words.now c.args.tokens c.take_word.new.self c.in-Some.path first known.0 known.1 (λ fits. let short = fits.short.short in absurd (omega (arith, c.if-len-header.true, c.len.ensures)))
 
-pub returns-then-not-is_new_word : goal.returns-then-not-is_new_word
-returns-then-not-is_new_word c =
+pub returns-then-not-lack : goal.returns-then-not-lack
+returns-then-not-lack c =
     let known = rw c.in-Some.is at c.in_ok-path.ensures in
     let first = rw c.if-not-take_word.false at c.take_word.ensures in
     no_other_word c.args.header.now c.requires c.args.words.now c.args.tokens c.take_word.new.self c.in-Some.path first known.0 known.1
-    (λ fits. let g : false ≡ true = c.if-not-is_new_word.ensures.1 fits.new in cc)
+    (λ fits. let g : false ≡ true = c.if-not-lack.ensures.1 fits.new in cc)
