@@ -4,7 +4,7 @@ ghost use Rattle.std.specs.Prelude.{◌≡◌, ◌+◌, ◌<◌, ◌≤◌, ℕ,
 ghost use Rattle.linear_algebra.specs.Field.{Gf};
 ghost use Rattle.linear_algebra.specs.Matrix.{Mat, Row, zeros, ◌⊞◌, ◌·◌};
 ghost use Rattle.linear_algebra.specs.BlockFamilies.{column_block};
-ghost use Rattle.linear_algebra.proofs.Dimension.{rank};
+ghost use Rattle.linear_algebra.specs.Ranks.{rank};
 ghost use Rattle.representations.specs.Quiver.{BoundQuiver};
 ghost use Rattle.representations.specs.Rep.{Rep, IsMod};
 ghost use Rattle.representations.specs.Hom.{Hom, ◌≫◌, ◌⊕◌, zero_hom};

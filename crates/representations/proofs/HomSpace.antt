@@ -13,7 +13,8 @@ use Rattle.representations.specs.Rep.{Rep}
 use Rattle.representations.specs.Hom.{Hom, Hom-eq, ◌⊕◌, multiple, ◌≫◌}
 use Rattle.representations.proofs.MatrixExtras.{flatten_all-zeros}
 use Rattle.representations.proofs.Homs.{compose_sum, sum_compose, compose_multiple, multiple_compose}
-pub use Rattle.representations.specs.HomSpace.{unflat, defect, equations, defects}
+unfoldable pub use Rattle.representations.specs.HomSpace.{unflat, defect, defects}
+pub use Rattle.representations.specs.HomSpace.{equations}
 use Rattle.representations.specs.HomSpace.{unknowns, flat, HomBasis}
 
 module _ {q : Gf} {Q : Quiver} where
