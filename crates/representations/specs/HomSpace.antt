@@ -1,7 +1,8 @@
 -- The space of homomorphisms from one representation to another. (Assem, Simson, Skowroński, volume 1, chapter I, 2, and III, 1.)
-use Rattle.std.specs.Prelude.{ℕ, ◌*◌, ◌≡◌}
+use Rattle.std.specs.Prelude.{ℕ, ◌*◌, ◌<◌, ◌≡◌}
 use Rattle.linear_algebra.specs.Field.{Gf}
 use Rattle.linear_algebra.specs.Matrix.{Mat, Row, ◌⊟◌, ◌·◌}
+use Rattle.linear_algebra.specs.Parts.{row}
 use Rattle.linear_algebra.specs.Rank.{IsInSpan}
 use Rattle.linear_algebra.specs.RowForm.{IsRowReduced}
 use Rattle.linear_algebra.specs.BlockFamilies.{total}
@@ -46,3 +47,9 @@ pub record HomBasis {q : Gf} {Q : Quiver} (X Y : Rep q Q) : Type 0 where
   pub hom_flat : (c : Row q size) → flat (hom c) ≡ c · basis
   pub spans : (f : Hom X Y) → IsInSpan basis (flat f)
   pub once : (c d : Row q size) → c · basis ≡ d · basis → c ≡ d
+
+-- The same of given rows: each is a homomorphism, each homomorphism is a combination of them, by exactly one row of coefficients.
+pub record IsHomBasis {q : Gf} {Q : Quiver} (X Y : Rep q Q) {n : ℕ} (basis : Mat q n (unknowns X Y)) : Type 0 where
+  pub homs : (i : ℕ) → i < n → (f : Hom X Y) × (flat f ≡ row i basis)
+  pub spans : (f : Hom X Y) → IsInSpan basis (flat f)
+  pub once : (c d : Row q n) → c · basis ≡ d · basis → c ≡ d
