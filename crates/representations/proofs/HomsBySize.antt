@@ -11,7 +11,8 @@ use Rattle.linear_algebra.proofs.LinearMaps.{mul-matrix_of}
 use Rattle.linear_algebra.proofs.MatrixLaws.{mul_assoc_mat, mul_zeros}
 use Rattle.linear_algebra.proofs.PartsLaws.{rows_equal, row-mul, row_zeros, unit_mul}
 use Rattle.linear_algebra.proofs.RowForm.{reduced_independent}
-use Rattle.linear_algebra.proofs.Solving.{right_inverse_cancels}
+use Rattle.linear_algebra.proofs.RowFormUnique.{row_form_unique}
+use Rattle.linear_algebra.proofs.Solving.{right_inverse_cancels, in_span_by_rows}
 use Rattle.linear_algebra.proofs.KernelsBySize.{kernel_by_reduced_rows, reduced_rows_of_kernel}
 use Rattle.representations.specs.Quiver.{Quiver}
 use Rattle.representations.specs.Rep.{Rep}
@@ -69,3 +70,11 @@ rows_of_hom_basis {q} B = record {
   spans = B.spans;
   once = B.once;
 }
+
+-- Two bases in reduced row form are equal.
+module _ {q : Gf} {Q : Quiver} (X Y : Rep q Q) where
+  spans_rows : {m n : ℕ} (a : Mat q m (unknowns X Y)) (b : Mat q n (unknowns X Y)) → IsHomBasis X Y a → IsHomBasis X Y b → IsInSpan a b
+  spans_rows a b r s = in_span_by_rows a b (λ i l. subst (IsInSpan a) (s.homs i l).1 (r.spans (s.homs i l).0))
+
+  pub hom_basis_unique : {m n : ℕ} (a : Mat q m (unknowns X Y)) (b : Mat q n (unknowns X Y)) (p r : ℕ → ℕ) → IsRowReduced a p → IsRowReduced b r → IsHomBasis X Y a → IsHomBasis X Y b → (m ≡ n) × ((i j : ℕ) → a.at i j ≡ b.at i j)
+  hom_basis_unique a b p r d e s t = row_form_unique a b p r d e (spans_rows b a t s) (spans_rows a b s t)
