@@ -1,11 +1,10 @@
 -- The equations of homomorphisms, place by place, and arrow by arrow.
-use Rattle.std.proofs.Common.{ℕ, ◌<◌, ◌≤◌, ◌≡◌, ◌+◌, ◌*◌, ◌/◌, ◌%◌, refl, sym, ap, ap₂, ◌∙◌, inl, inr, arith}
-use Rattle.std.proofs.lemmas.Bool.{cases_lt}
+use Rattle.std.proofs.Common.{ℕ, ◌<◌, ◌≡◌, ◌+◌, ◌*◌, sym, ap, ap₂, ◌∙◌, arith}
 use Rattle.std.proofs.lemmas.Nat.{mul-add-lt}
 use Rattle.linear_algebra.specs.Field.{Gf, add, mul, neg}
 use Rattle.linear_algebra.specs.FieldLaws.{mul_comm, neg_mul}
 use Rattle.linear_algebra.specs.Sums.{sum_to, sum-same, neg-sum}
-use Rattle.linear_algebra.specs.Matrix.{Mat, Row, zeros, ◌·◌, ◌⊞◌, ◌⊟◌, negative}
+use Rattle.linear_algebra.specs.Matrix.{Row, zeros, ◌·◌, ◌⊞◌, ◌⊟◌, negative}
 use Rattle.linear_algebra.specs.BlockFamilies.{total, column_block}
 use Rattle.linear_algebra.specs.Solutions.{unflatten_all}
 use Rattle.linear_algebra.proofs.LinearMaps.{unflatten-at}
@@ -40,4 +39,4 @@ module _ {q : Gf} {Q : Quiver} (X Y : Rep q Q) (x : Row q (unknowns X Y)) where
   defect_by_places a i j h k = ap₂ (add q)
       (sum-same q (X.dim (Q.target a)) _ _ (λ t l. ap (mul q ((X.mat a).at i t)) (unflat-at (Q.target a) t j l k ∙ ap (x.at 0) (omega arith))))
       (neg-sum q (Y.dim (Q.source a)) _ ∙ sum-same q (Y.dim (Q.source a)) _ _ (λ t l.
-          ap (neg q) (mul_comm q _ ((Y.mat a).at t j)) ∙ sym (neg_mul q ((Y.mat a).at t j) _) ∙ ap (mul q (neg q ((Y.mat a).at t j))) (unflat-at (Q.source a) i t h l)))
+      ap (neg q) (mul_comm q _ ((Y.mat a).at t j)) ∙ sym (neg_mul q ((Y.mat a).at t j) _) ∙ ap (mul q (neg q ((Y.mat a).at t j))) (unflat-at (Q.source a) i t h l)))

@@ -1,5 +1,5 @@
 -- Bases of the homomorphisms by size: rows in reduced row form that are homomorphisms, as many as the unknowns exceed the rank of the equations.
-use Rattle.std.proofs.Common.{ℕ, ◌≡◌, ◌<◌, ◌+◌, refl, sym, ap, ◌∙◌, subst}
+use Rattle.std.proofs.Common.{ℕ, ◌≡◌, ◌<◌, ◌+◌, sym, ap, ◌∙◌, subst}
 use Rattle.linear_algebra.specs.Field.{Gf}
 use Rattle.linear_algebra.specs.Matrix.{Mat, Row, zeros, ◌·◌}
 use Rattle.linear_algebra.specs.LinearMaps.{matrix_of}
@@ -16,7 +16,6 @@ use Rattle.linear_algebra.proofs.Solving.{right_inverse_cancels, in_span_by_rows
 use Rattle.linear_algebra.proofs.KernelsBySize.{kernel_by_reduced_rows, reduced_rows_of_kernel}
 use Rattle.representations.specs.Quiver.{Quiver}
 use Rattle.representations.specs.Rep.{Rep}
-use Rattle.representations.specs.Hom.{Hom}
 use Rattle.representations.specs.HomSpace.{unknowns, flat, defects, equations, HomBasis, IsHomBasis}
 use Rattle.representations.proofs.HomSpace.{defects_linear, hom_of, flat-hom_of, hom_defects}
 
@@ -52,7 +51,7 @@ module _ {q : Gf} {Q : Quiver} (X Y : Rep q Q) {n : ℕ} (basis : Mat q n (unkno
         subst (IsInSpan basis) (flat-hom_of X Y x e) (b.spans (hom_of X Y x e)))
 
     -- and given rows and the basis that carries its rows are the same.
-    pub hom_basis_of_rows : (pivot : ℕ → ℕ) → IsRowReduced basis pivot → HomBasis X Y
+    abbrev pub hom_basis_of_rows : (pivot : ℕ → ℕ) → IsRowReduced basis pivot → HomBasis X Y
     hom_basis_of_rows pivot reduced = record {
       size = n;
       basis = basis;

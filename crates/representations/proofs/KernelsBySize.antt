@@ -2,7 +2,7 @@
 -- exceeds the rank, is the kernel; a co-reduced projection the same.
 use Rattle.std.proofs.Common.{ℕ, ◌+◌, ◌≡◌, sym, ap, ◌∙◌}
 use Rattle.linear_algebra.specs.Field.{Gf}
-use Rattle.linear_algebra.specs.Matrix.{Mat, Row, zeros, ◌·◌}
+use Rattle.linear_algebra.specs.Matrix.{zeros, ◌·◌}
 use Rattle.linear_algebra.specs.Rank.{HasRightInverse, HasLeftInverse}
 use Rattle.linear_algebra.specs.Ranks.{rank}
 use Rattle.linear_algebra.proofs.Dimension.{rank_is}

@@ -66,8 +66,8 @@ pub fn hom_space()
 {}
 
 /// Homomorphisms by their equations: a row is one exactly where its defects at the arrows are zero. So rows in reduced row form that are
-/// homomorphisms are a basis exactly where they are as many as the unknowns exceed the rank of the equations; there is one basis in that form, and it
-/// is what a basis with its rows hidden in it has. (Chapter I, 2, and III, 1.)
+/// homomorphisms are a basis exactly where they are as many as the unknowns exceed the rank of the equations; there is one basis in that form, and a
+/// basis with its rows in it is the same. (Chapter I, 2, and III, 1.)
 pub fn hom_space_by_size()
     ensures meets { (q : Gf) (Q : Quiver) (X Y : Rep q Q) (f : Hom X Y)
         → defects X Y (flat f) ≡ zeros q 1 (equations X Y) }
@@ -82,4 +82,6 @@ pub fn hom_space_by_size()
         (p r : ℕ → ℕ) → IsRowReduced a p → IsRowReduced b r → IsHomBasis X Y a → IsHomBasis X Y b
         → (m ≡ n) × ((i j : ℕ) → a.at i j ≡ b.at i j) }
     ensures rows { (q : Gf) (Q : Quiver) (X Y : Rep q Q) (B : HomBasis X Y) → IsHomBasis X Y B.basis }
+    ensures with_rows { (q : Gf) (Q : Quiver) (X Y : Rep q Q) (n : ℕ) (b : Mat q n (unknowns X Y)) (p : ℕ → ℕ) → IsRowReduced b p
+        → IsHomBasis X Y b → (B : HomBasis X Y) × (B.size ≡ n) × ((i j : ℕ) → B.basis.at i j ≡ b.at i j) }
 {}
