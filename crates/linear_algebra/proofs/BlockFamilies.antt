@@ -74,6 +74,11 @@ total_grows size (suc k) v h = elim (cases_eq v k) [
   | inr d ↦ let before = total_grows size k v (omega arith) in omega arith
 ]
 
+-- What is counted up to a place does not see what stands behind it.
+pub total-same : (k : ℕ) (f g : ℕ → ℕ) → ((i : ℕ) → i < k → f i ≡ g i) → total k f ≡ total k g
+total-same zero f g h = refl
+total-same (suc k) f g h = ap₂ (λ a b. a + b) (total-same k f g (λ i l. h i (omega arith))) (h k (omega arith))
+
 module _ {q : Gf} {l : ℕ} (size : ℕ → ℕ) where
   pub beside_all-same : (k : ℕ) (x y : (v : ℕ) → Mat q l (size v)) → ((v : ℕ) → v < k → x v ≡ y v) → beside_all k size x ≡ beside_all k size y
   unfolding beside_all

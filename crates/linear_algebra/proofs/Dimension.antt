@@ -4,6 +4,7 @@ use Rattle.std.proofs.Common.{ℕ, ◌+◌, ◌≤◌, ◌≡◌, inl, inr, sym,
 use Rattle.linear_algebra.specs.Field.{Gf}
 use Rattle.linear_algebra.specs.Matrix.{Mat, Row, Column, zeros, one, ◌⊞◌, ◌⊟◌, ◌·◌, transpose, stack, beside}
 use Rattle.linear_algebra.specs.Rank.{IsInSpan, RankFactorisation, Complement}
+unfoldable pub use Rattle.linear_algebra.specs.Ranks.{rank}
 use Rattle.linear_algebra.proofs.MatrixLaws.{zeros_add, mul_one_mat, add_zeros, mul_add_mat, mul_assoc_mat, sub_eq_zeros, sub_add_mat, mul_zeros, zeros_mul, add_comm_mat, transpose_mul, transpose_one}
 use Rattle.linear_algebra.proofs.Blocks.{one_blocks}
 use Rattle.linear_algebra.proofs.Products.{products, sums, blocks, pull}
@@ -59,9 +60,6 @@ module _ {q : Gf} {m n : ℕ} {f : Mat q m n} where
     left_inverse = sym (transpose_mul F.basis F.right) ∙ ap transpose F.right_inverse ∙ transpose_one q F.size;
     right_inverse = sym (transpose_mul F.left F.into) ∙ ap transpose F.left_inverse ∙ transpose_one q F.size;
   }
-
-unfoldable pub rank : {q : Gf} {m n : ℕ} → Mat q m n → ℕ
-rank f = (rank_factorisation f).size
 
 pub rank_is : {q : Gf} {m n : ℕ} {f : Mat q m n} (F : RankFactorisation f) → rank f ≡ F.size
 unfolding rank

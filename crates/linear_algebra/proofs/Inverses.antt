@@ -133,3 +133,8 @@ unfolding mat_power
 transpose_power {q} {n} x zero = transpose_one q n
 transpose_power x (suc k) =
     transpose_mul x (mat_power x k) ∙ ap (λ z. z · transpose x) (transpose_power x k) ∙ sym (mat_power-last (transpose x) k)
+
+-- The powers of an invertible matrix are invertible.
+pub power_inverse : {q : Gf} {n : ℕ} (x : Mat q n n) → HasInverse x → (k : ℕ) → HasInverse (mat_power x k)
+power_inverse {q} {n} x i zero = subst HasInverse (sym (mat_power-zero x)) (one_inverse q n)
+power_inverse x i (suc k) = subst HasInverse (sym (mat_power-suc x k)) (inverse_product x (mat_power x k) i (power_inverse x i k))

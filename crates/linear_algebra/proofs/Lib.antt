@@ -14,6 +14,7 @@ pub mod Frobenius
 pub mod Inverses
 pub mod InvertRows
 pub mod KernelRows
+pub mod KernelsBySize
 pub mod LinearMaps
 pub mod MatrixLaws
 pub mod MatrixPaths

@@ -1,13 +1,18 @@
 -- How ranks go with products, spans, inverses and powers.
 use Rattle.std.proofs.Common.{ℕ, ◌+◌, ◌≤◌, ◌≡◌, refl, sym, ap, ◌∙◌, arith, subst, le_antisymm}
 use Rattle.linear_algebra.specs.Field.{Gf}
-use Rattle.linear_algebra.specs.Matrix.{Mat, one, ◌·◌}
-use Rattle.linear_algebra.specs.Rank.{IsInSpan, HasRightInverse, HasLeftInverse, HasInverse}
+use Rattle.linear_algebra.specs.Matrix.{Mat, Row, zeros, one, ◌·◌}
+use Rattle.linear_algebra.specs.Rank.{IsInSpan, HasRightInverse, HasLeftInverse, HasInverse, RankFactorisation, Complement}
 use Rattle.linear_algebra.specs.Powers.{mat_power}
 use Rattle.linear_algebra.proofs.MatrixLaws.{mul_assoc_mat, mul_one_mat, one_mul_mat}
+use Rattle.linear_algebra.proofs.Blocks.{no_rows_zeros}
+use Rattle.linear_algebra.proofs.Steinitz.{through_none}
+use Rattle.linear_algebra.proofs.Subspaces.{inclusion_size, through_zero}
+use Rattle.linear_algebra.proofs.Exactness.{by_kernel_rows}
 use Rattle.linear_algebra.proofs.RankExists.{rank_factorisation}
-use Rattle.linear_algebra.proofs.Dimension.{rank, rank_is, rank_product_left, rank_product_right, rank_le_rows, rank_le_columns}
-use Rattle.linear_algebra.proofs.Inverses.{right_inverse_first, left_inverse_second, right_inverse_square, left_inverse_square, mat_power-add}
+use Rattle.linear_algebra.specs.Ranks.{rank}
+use Rattle.linear_algebra.proofs.Dimension.{rank_is, rank_product_left, rank_product_right, rank_le_rows, rank_le_columns, complement, kernel_spans}
+use Rattle.linear_algebra.proofs.Inverses.{right_inverse_first, left_inverse_second, right_inverse_square, left_inverse_square, inverse_product, mat_power-add}
 use Rattle.linear_algebra.proofs.Fitting.{powers_settle}
 
 pub rank_mul_le_left : {q : Gf} {m k n : ℕ} (f : Mat q m k) (g : Mat q k n) → rank (f · g) ≤ rank f
@@ -82,3 +87,55 @@ module _ {q : Gf} {n : ℕ} (x y : Mat q n n) (i : HasInverse (x · y)) where
 
   pub second_factor_inverse : HasInverse y
   second_factor_inverse = left_inverse_square y refl (left_inverse_second x y (record { inverse = i.inverse; is = i.left }))
+
+-- Full rank: the inverse of a square matrix.
+module _ {q : Gf} {n : ℕ} (f : Mat q n n) where
+  pub inverse_of_rank : rank f ≡ n → HasInverse f
+  inverse_of_rank e = go (rank_factorisation f)
+    where
+      go : RankFactorisation f → HasInverse f
+      go F =
+          let same : n ≡ F.size = sym e ∙ rank_is F in
+          subst HasInverse F.product
+          (inverse_product F.into F.basis (left_inverse_square F.into same (record { inverse = F.left; is = F.left_inverse }))
+          (right_inverse_square F.basis (sym same) (record { inverse = F.right; is = F.right_inverse })))
+
+  pub rank_of_inverse : HasInverse f → rank f ≡ n
+  rank_of_inverse i = rank_right_inverse f (record { inverse = i.inverse; is = i.right })
+
+-- Rank zero: the zero matrix.
+module _ {q : Gf} {m n : ℕ} (f : Mat q m n) where
+  pub zeros_of_rank : rank f ≡ 0 → f ≡ zeros q m n
+  zeros_of_rank e = go (rank_factorisation f)
+    where
+      go : RankFactorisation f → f ≡ zeros q m n
+      go F = sym F.product ∙ through_zero F.into F.basis (sym (rank_is F) ∙ e)
+
+  pub rank_of_zeros : f ≡ zeros q m n → rank f ≡ 0
+  rank_of_zeros e = subst (λ a. rank a ≡ 0) (sym e) (rank_is (record {
+    size = 0;
+    into = zeros q m 0;
+    basis = zeros q 0 n;
+    left = zeros q 0 m;
+    right = zeros q n 0;
+    product = through_none (zeros q m 0) (zeros q 0 n);
+    left_inverse = no_rows_zeros refl _ ∙ sym (no_rows_zeros refl _);
+    right_inverse = no_rows_zeros refl _ ∙ sym (no_rows_zeros refl _);
+  }))
+
+-- Matrices that take the same rows to zero have the same rank.
+kernel_no_larger : {q : Gf} {u m n : ℕ} (f : Mat q u m) (g : Mat q u n) → ((x : Row q u) → x · f ≡ zeros q 1 m → x · g ≡ zeros q 1 n) → (C : Complement f) (D : Complement g) → C.nullity ≤ D.nullity
+kernel_no_larger f g h C D =
+    inclusion_size C.kernel D.kernel (record { inverse = C.retraction; is = C.kernel_retracts })
+    (kernel_spans g D C.kernel (by_kernel_rows f g h C.kernel C.kernel_kills))
+
+pub same_kernel_same_rank : {q : Gf} {u m n : ℕ} (f : Mat q u m) (g : Mat q u n) → ((x : Row q u) → x · f ≡ zeros q 1 m → x · g ≡ zeros q 1 n)
+    → ((x : Row q u) → x · g ≡ zeros q 1 n → x · f ≡ zeros q 1 m) → rank f ≡ rank g
+same_kernel_same_rank f g h k =
+    let C = complement f in
+    let D = complement g in
+    let a = kernel_no_larger f g h C D in
+    let b = kernel_no_larger g f k D C in
+    let c = C.rank_nullity in
+    let d = D.rank_nullity in
+    rank_is C.rank ∙ (let e : C.rank.size ≡ D.rank.size = omega arith in e) ∙ sym (rank_is D.rank)

@@ -58,6 +58,12 @@ leading_le (a ∷ x) = elim (eqb_tells a 0) [
   | inr e ↦ let k : leading (a ∷ x) ≡ 0 = ap (λ t. cond t (suc (leading x)) 0) e.0 in omega arith
 ]
 
+pub leading_all_zero : (x : List ℕ) → ((j : ℕ) → j < length x → get_or x j 0 ≡ 0) → length x ≡ leading x
+leading_all_zero x h = elim (cases_lt (leading x) (length x)) [
+  | inl l ↦ absurd (at_leading x l (h (leading x) l))
+  | inr l ↦ let k = leading_le x in omega arith
+]
+
 -- a row is zero from its first place on where its leading place is past the end
 pub zero_from_leading : (x : List ℕ) → length x ≤ leading x → (j : ℕ) → get_or x j 0 ≡ 0
 zero_from_leading x h j = elim (cases_lt j (length x)) [ inl l ↦ before_leading x j (omega arith) | inr l ↦ get_or_past x j 0 l ]

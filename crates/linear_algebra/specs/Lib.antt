@@ -1,4 +1,5 @@
 pub mod BlockFamilies
+pub mod Blocks
 pub mod DirectSum
 pub mod Families
 pub mod Field
@@ -8,13 +9,19 @@ pub mod FieldTests
 pub mod Kernels
 pub mod LinearMaps
 pub mod Matrix
+pub mod MatrixLaws
 pub mod Parts
+pub mod PartsLaws
 pub mod Powers
+pub mod Products
 pub mod Rank
+pub mod RankExists
+pub mod Ranks
 pub mod Reduced
 pub mod RowForm
 pub mod RowSolutions
 pub mod Rows
+pub mod Search
 pub mod Separators
 pub mod Solutions
 pub mod Sums

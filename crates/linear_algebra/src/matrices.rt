@@ -4,6 +4,7 @@ ghost use Rattle.std.specs.Prelude.{◌≡◌, ◌⊎◌, ℕ, ◌+◌, ◌<◌,
 ghost use Rattle.linear_algebra.specs.Field.{Gf, order};
 ghost use Rattle.linear_algebra.specs.Matrix.{Mat, Row, zeros, one, ◌·◌, ◌⊞◌, ◌⊙◌, stack};
 ghost use Rattle.linear_algebra.specs.Rank.{RankFactorisation, Complement, IsInSpan, IsSeparate, IsInColumnSpan, HasRightInverse, HasLeftInverse, HasInverse, IsInjective, IsSurjective, IsDependent};
+ghost use Rattle.linear_algebra.specs.Ranks.{rank};
 ghost use Rattle.linear_algebra.specs.Powers.{mat_power, shifts, IsNilpotent, FittingParts};
 ghost use Rattle.linear_algebra.specs.RowForm.{ReducedForm, IsRowReduced, CoReducedForm, IsCoReduced};
 ghost use Rattle.linear_algebra.specs.LinearMaps.{IsLinear, matrix_of};
@@ -107,6 +108,32 @@ pub fn exactness()
         → a.size + b.size ≡ n → (x : Row q n) → x · g ≡ zeros q 1 k → IsInSpan f x }
     ensures ranks { (q : Gf) (m n k : ℕ) (f : Mat q m n) (g : Mat q n k) (a : RankFactorisation f) (b : RankFactorisation g) → f · g ≡ zeros q m k
         → ((x : Row q n) → x · g ≡ zeros q 1 k → IsInSpan f x) → a.size + b.size ≡ n }
+{}
+
+/// The rank tells invertible and zero matrices: of square matrices those of full rank are invertible, and only a zero matrix has rank
+/// zero. Matrices that take the same rows to zero have the same rank.
+pub fn ranks()
+    ensures is_size { (q : Gf) (m n : ℕ) (f : Mat q m n) (a : RankFactorisation f) → rank f ≡ a.size }
+    ensures full { (q : Gf) (n : ℕ) (f : Mat q n n) → rank f ≡ n → HasInverse f }
+    ensures invertible { (q : Gf) (n : ℕ) (f : Mat q n n) → HasInverse f → rank f ≡ n }
+    ensures none { (q : Gf) (m n : ℕ) (f : Mat q m n) → rank f ≡ 0 → f ≡ zeros q m n }
+    ensures zero { (q : Gf) (m n : ℕ) (f : Mat q m n) → f ≡ zeros q m n → rank f ≡ 0 }
+    ensures same_kernel { (q : Gf) (k m n : ℕ) (f : Mat q k m) (g : Mat q k n)
+        → ((x : Row q k) → x · f ≡ zeros q 1 m → x · g ≡ zeros q 1 n) → ((x : Row q k) → x · g ≡ zeros q 1 n → x · f ≡ zeros q 1 m) → rank f ≡ rank g }
+{}
+
+/// Kernels by size: rows in reduced row form that f takes to zero span all such rows exactly where they are as many as the rows of f
+/// exceed its rank. Cokernels by size: a co-reduced matrix that is zero after f takes to zero just the span of f exactly where its columns are as many as
+/// those of f exceed its rank.
+pub fn kernels_by_size()
+    ensures kernel { (q : Gf) (k m n : ℕ) (f : Mat q m n) (i : Mat q k m) (p : ℕ → ℕ) → IsRowReduced i p → i · f ≡ zeros q k n → k + rank f ≡ m
+        → (x : Row q m) → x · f ≡ zeros q 1 n → IsInSpan i x }
+    ensures kernel_size { (q : Gf) (k m n : ℕ) (f : Mat q m n) (i : Mat q k m) (p : ℕ → ℕ) → IsRowReduced i p → i · f ≡ zeros q k n
+        → ((x : Row q m) → x · f ≡ zeros q 1 n → IsInSpan i x) → k + rank f ≡ m }
+    ensures cokernel { (q : Gf) (m n c : ℕ) (f : Mat q m n) (g : Mat q n c) (p : ℕ → ℕ) → IsCoReduced g p → f · g ≡ zeros q m c → rank f + c ≡ n
+        → (x : Row q n) → x · g ≡ zeros q 1 c → IsInSpan f x }
+    ensures cokernel_size { (q : Gf) (m n c : ℕ) (f : Mat q m n) (g : Mat q n c) (p : ℕ → ℕ) → IsCoReduced g p → f · g ≡ zeros q m c
+        → ((x : Row q n) → x · g ≡ zeros q 1 c → IsInSpan f x) → rank f + c ≡ n }
 {}
 
 /// The rows that a linear function takes to zero have a basis in reduced row form, of as many rows as the rank of the function's

@@ -21,7 +21,7 @@ use Rattle.projectives.specs.HomRows.{value, hom_of_rows}
 use Rattle.projectives.specs.CanonicalCover.{vertex_in, projectives_at}
 use Rattle.projectives.specs.Resolutions.{ProjectiveSequence, IsMinimalResolution}
 use Rattle.projectives.specs.BasisModulo.{IsBasisModulo, IsReducedModulo}
-use Rattle.projectives.specs.Extensions.{coordinate_count, coordinate_row, hom_of_row, composition_matrix, ExtensionBasis}
+use Rattle.projectives.specs.Extensions.{coordinate_count, coordinate_row, hom_of_row, composition_matrix, ExtensionBasis, IsExtensionBasis}
 use Rattle.projectives.proofs.Families.{generator-from_rows, equal_on_generators}
 use Rattle.projectives.proofs.BasisModulo.{canonical, canonical_reduced, canonical_basis, basis_unique, basis_by_size, basis_size, reduced_once, less_first, back}
 
@@ -127,6 +127,13 @@ module _ {q : Gf} (A : BoundQuiver) (W : Words q A.quiver) (B : IsWordBasis A W)
     sum_row : (x : Row q (coordinate_count X k v)) (b : Hom (projectives W h u) X) → coordinate_row A W B k v (hom x ⊕ d ≫ b) ≡ x ⊞ coordinate_row A W B h u b · C
     sum_row x b = coordinate_row-sum k v (hom x) (d ≫ b) ∙ ap₂ (λ y z. y ⊞ z) (coordinate_row-hom k v x) (coordinate_row-compose k v h u d b)
 
+    -- A basis of extensions, by its rows, and with them.
+    abbrev pub extension_by : {e : ℕ} (E : Mat q e (coordinate_count X k v)) → IsExtensionBasis A W B j t k v h u X M d' d E → ExtensionBasis A W B j t k v h u X M d' d
+    extension_by {e} E b = record { size = e; rows = E; cocycles = b.cocycles; spans = b.spans; once = b.once; reduced = b.reduced }
+
+    pub extension_rows : (R : ExtensionBasis A W B j t k v h u X M d' d) → IsExtensionBasis A W B j t k v h u X M d' d R.rows
+    extension_rows R = record { cocycles = R.cocycles; spans = R.spans; once = R.once; reduced = R.reduced }
+
     module _ {e : ℕ} (E : Mat q e (coordinate_count X k v)) (b : IsBasisModulo C D E) where
       cocycle_rows : (c : Row q e) → d' ≫ hom (c · E) ≡ zero_hom (projectives W j t) X
       cocycle_rows c = killed_hom j t k v d' (c · E) (mul_assoc_mat c E D ∙ ap (λ z. c · z) b.kills ∙ mul_zeros c)
@@ -147,8 +154,11 @@ module _ {q : Gf} (A : BoundQuiver) (W : Words q A.quiver) (B : IsWordBasis A W)
         is = sym (ap (λ z. z ⊟ c · E) (sym (coordinate_row-hom k v (f · E)) ∙ ap (coordinate_row A W B k v) (sym s) ∙ sum_row (c · E) w) ∙ less_first (c · E) (coordinate_row A W B h u w · C));
       }))
 
+      pub rows_are_extension : IsReducedModulo C E → IsExtensionBasis A W B j t k v h u X M d' d E
+      rows_are_extension r = record { cocycles = cocycle_rows; spans = cocycle_spans; once = cocycle_once; reduced = r }
+
       pub extension_of_rows : IsReducedModulo C E → ExtensionBasis A W B j t k v h u X M d' d
-      extension_of_rows r = record { size = e; rows = E; cocycles = cocycle_rows; spans = cocycle_spans; once = cocycle_once; reduced = r }
+      extension_of_rows r = extension_by E (rows_are_extension r)
 
     -- And back.
     module _ (R : ExtensionBasis A W B j t k v h u X M d' d) where
@@ -180,10 +190,20 @@ module _ {q : Gf} (A : BoundQuiver) (W : Words q A.quiver) (B : IsWordBasis A W)
     pub extension_unique : (R S : ExtensionBasis A W B j t k v h u X M d' d) → (R.size ≡ S.size) × ((a b : ℕ) → R.rows.at a b ≡ S.rows.at a b)
     extension_unique R S = basis_unique C D R.rows S.rows (rows_of_extension R) R.reduced (rows_of_extension S) S.reduced
 
+    pub rows_by_size : d' ≫ d ≡ zero_hom (projectives W j t) (projectives W h u) → {e : ℕ} (E : Mat q e (coordinate_count X k v)) → ((c : Row q e) → d' ≫ hom (c · E) ≡ zero_hom (projectives W j t) X) → IsReducedModulo C E
+        → e + rank C + rank D ≡ coordinate_count X k v → IsExtensionBasis A W B j t k v h u X M d' d E
+    rows_by_size z {e} E kills r s = rows_are_extension E (basis_by_size C D (complex_matrices z) E
+        (equal_on_rows (E · D) (zeros q e (coordinate_count X j t)) (λ c. sym (mul_assoc_mat c E D) ∙ killed_row j t k v d' (c · E) (kills c) ∙ sym (mul_zeros c))) r s) r
+
     pub extension_by_size : d' ≫ d ≡ zero_hom (projectives W j t) (projectives W h u) → {e : ℕ} (E : Mat q e (coordinate_count X k v)) → ((c : Row q e) → d' ≫ hom (c · E) ≡ zero_hom (projectives W j t) X) → IsReducedModulo C E
         → e + rank C + rank D ≡ coordinate_count X k v → ExtensionBasis A W B j t k v h u X M d' d
-    extension_by_size z {e} E kills r s = extension_of_rows E (basis_by_size C D (complex_matrices z) E
-        (equal_on_rows (E · D) (zeros q e (coordinate_count X j t)) (λ c. sym (mul_assoc_mat c E D) ∙ killed_row j t k v d' (c · E) (kills c) ∙ sym (mul_zeros c))) r s) r
+    extension_by_size z E kills r s = extension_by E (rows_by_size z E kills r s)
+
+    pub rows_size : d' ≫ d ≡ zero_hom (projectives W j t) (projectives W h u) → {e : ℕ} (E : Mat q e (coordinate_count X k v)) → IsExtensionBasis A W B j t k v h u X M d' d E → e + rank C + rank D ≡ coordinate_count X k v
+    rows_size z E b = extension_size (extension_by E b) z
+
+    pub rows_unique : {e f : ℕ} (E : Mat q e (coordinate_count X k v)) (F : Mat q f (coordinate_count X k v)) → IsExtensionBasis A W B j t k v h u X M d' d E → IsExtensionBasis A W B j t k v h u X M d' d F → (e ≡ f) × ((a b : ℕ) → E.at a b ≡ F.at a b)
+    rows_unique E F b c = extension_unique (extension_by E b) (extension_by F c)
 
   -- At each degree of a minimal resolution.
   module _ (Y : Rep q A.quiver) (R : ProjectiveSequence W Y) where

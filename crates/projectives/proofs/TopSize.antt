@@ -26,39 +26,39 @@ use Rattle.projectives.proofs.Generators.{rows_at-elsewhere}
 
 module _ {q : Gf} {Q : Quiver} (X : Rep q Q) (k : ℕ) (v : ℕ → ℕ) (x : (j : ℕ) → Row q (X.dim (v j))) (w : ℕ) where
   -- one row for each generator at w, and none for the others
-  abbrev size : ℕ → ℕ
+  abbrev pub size : ℕ → ℕ
   size j = cond (eqb (v j) w) 1 zero
 
-  size_here : (j : ℕ) → v j ≡ w → size j ≡ 1
+  pub size_here : (j : ℕ) → v j ≡ w → size j ≡ 1
   size_here j e = cond-true (eqb (v j) w) 1 zero (eq-eqb (v j) w e)
 
-  size_elsewhere : (j : ℕ) → v j ≢ w → size j ≡ 0
+  pub size_elsewhere : (j : ℕ) → v j ≢ w → size j ≡ 0
   size_elsewhere j d = cond-false (eqb (v j) w) 1 zero (ne_eqb (v j) w d)
 
-  all_rows : Mat q k (X.dim w)
+  pub all_rows : Mat q k (X.dim w)
   all_rows = rows_at X k v x w
 
-  block : (j : ℕ) → Mat q (size j) (X.dim w)
+  pub block : (j : ℕ) → Mat q (size j) (X.dim w)
   block j = made q (size j) (X.dim w) (λ i c. all_rows.at j c)
 
-  choice : (j : ℕ) → Mat q (size j) k
+  pub choice : (j : ℕ) → Mat q (size j) k
   choice j = made q (size j) k (λ i t. delta j t)
 
-  chosen : Mat q (count_at k v w) (X.dim w)
+  pub chosen : Mat q (count_at k v w) (X.dim w)
   chosen = stack_all k size block
 
-  choices : Mat q (count_at k v w) k
+  pub choices : Mat q (count_at k v w) k
   choices = stack_all k size choice
 
-  choice-at : (j i t : ℕ) → i < size j → t < k → (choice j).at i t ≡ delta j t
+  pub choice-at : (j i t : ℕ) → i < size j → t < k → (choice j).at i t ≡ delta j t
   unfolding choice
   choice-at j i t h l = made-at q (size j) k (λ i t. delta j t) i t h l ∙ mod-eq_of_lt (delta_below q j t)
 
-  block-at : (j i c : ℕ) → i < size j → c < X.dim w → (block j).at i c ≡ all_rows.at j c
+  pub block-at : (j i c : ℕ) → i < size j → c < X.dim w → (block j).at i c ≡ all_rows.at j c
   unfolding block
   block-at j i c h l = made-at q (size j) (X.dim w) (λ i c. all_rows.at j c) i c h l ∙ mod-eq_of_lt (all_rows.fits.small j c)
 
-  choice_block : (j : ℕ) → j < k → choice j · all_rows ≡ block j
+  pub choice_block : (j : ℕ) → j < k → choice j · all_rows ≡ block j
   unfolding ◌·◌
   choice_block j h = Mat-eq_below _ _ (λ i c b l.
       sum-single q k j _ h (λ t m d. ap (λ a. mul q a (all_rows.at t c)) (choice-at j i t b m ∙ delta-other j t (λ e. d (sym e))) ∙ zero_mul q (all_rows.at t c))
@@ -66,12 +66,12 @@ module _ {q : Gf} {Q : Quiver} (X : Rep q Q) (k : ℕ) (v : ℕ → ℕ) (x : (j
       ∙ ap (λ a. mul q a (all_rows.at j c)) (choice-at j i j b h ∙ delta-same j) ∙ one_mul q (all_rows.at j c) (all_rows.fits.small j c)
       ∙ sym (block-at j i c b l))
 
-  choices_chosen : choices · all_rows ≡ chosen
+  pub choices_chosen : choices · all_rows ≡ chosen
   unfolding choices chosen
   choices_chosen = stack_all_mul k size choice all_rows ∙ stack_all-same size k _ block choice_block
 
   -- The chosen rows span the same.
-  chosen_span : IsInSpan chosen all_rows
+  pub chosen_span : IsInSpan chosen all_rows
   unfolding chosen all_rows zeros
   chosen_span = in_span_by_rows chosen all_rows (λ j h. elim (cases_eq (v j) w) [
     | inl e ↦
@@ -109,7 +109,7 @@ module _ {q : Gf} {Q : Quiver} (X : Rep q Q) (k : ℕ) (v : ℕ → ℕ) (x : (j
         ∙ sum-single q k j _ h (λ t l d. part_choice-other j t h d)
         ∙ mod-eq_of_lt ((part j · choice j).fits.small 0 j) ∙ part_choice-same j h e
 
-    none_chosen : ((j : ℕ) → j < k → v j ≡ w → (c · choices).at 0 j ≡ 0) → c ≡ zeros q 1 (count_at k v w)
+    pub none_chosen : ((j : ℕ) → j < k → v j ≡ w → (c · choices).at 0 j ≡ 0) → c ≡ zeros q 1 (count_at k v w)
     unfolding zeros
     none_chosen z =
         sym parts

@@ -31,6 +31,14 @@ module _ {q : Gf} (A : BoundQuiver) (W : Words q A.quiver) (B : IsWordBasis A W)
   -- A basis of the extensions by X at the middle of P'' → P → P', by d' and d, in coordinates: its rows are cocycles, homomorphisms P → X that are zero after
   -- d'; each cocycle is a combination of them and a coboundary, d and then a homomorphism P' → X, with exactly one row of coefficients; and it is reduced
   -- modulo the coboundaries. For the degree 0, P' is the empty sum.
+  pub record IsExtensionBasis (j : ℕ) (t : ℕ → ℕ) (k : ℕ) (v : ℕ → ℕ) (h : ℕ) (u : ℕ → ℕ) (X : Rep q A.quiver) (M : IsMod A X) (d' : Hom (projectives W j t) (projectives W k v)) (d : Hom (projectives W k v) (projectives W h u)) {n : ℕ} (rows : Mat q n (coordinate_count X k v)) : Type 0 where
+    pub cocycles : (c : Row q n) → d' ≫ hom_of_row k v X M (c · rows) ≡ zero_hom (projectives W j t) X
+    pub spans : (y : Hom (projectives W k v) X) → d' ≫ y ≡ zero_hom (projectives W j t) X
+        → (c : Row q n) × (b : Hom (projectives W h u) X) × (hom_of_row k v X M (c · rows) ⊕ d ≫ b ≡ y)
+    pub once : (c e : Row q n) (b : Hom (projectives W h u) X) → hom_of_row k v X M (c · rows) ⊕ d ≫ b ≡ hom_of_row k v X M (e · rows) → c ≡ e
+    pub reduced : IsReducedModulo (composition_matrix k v h u X M d) rows
+
+  -- The same with its size and its rows in it.
   pub record ExtensionBasis (j : ℕ) (t : ℕ → ℕ) (k : ℕ) (v : ℕ → ℕ) (h : ℕ) (u : ℕ → ℕ) (X : Rep q A.quiver) (M : IsMod A X) (d' : Hom (projectives W j t) (projectives W k v)) (d : Hom (projectives W k v) (projectives W h u)) : Type 0 where
     pub size : ℕ
     pub rows : Mat q size (coordinate_count X k v)

@@ -2,19 +2,19 @@
 
 ghost use Rattle.std.specs.Prelude.{◌≡◌, ◌+◌, ◌<◌, ◌≤◌, ℕ, zero, suc, List, length};
 ghost use Rattle.linear_algebra.specs.Field.{Gf};
-ghost use Rattle.linear_algebra.specs.Matrix.{Mat, Row, zeros, ◌⊞◌, ◌·◌};
+ghost use Rattle.linear_algebra.specs.Matrix.{Mat, Row, zeros, ◌⊞◌, ◌⊙◌, ◌·◌};
 ghost use Rattle.linear_algebra.specs.BlockFamilies.{column_block};
-ghost use Rattle.linear_algebra.proofs.Dimension.{rank};
+ghost use Rattle.linear_algebra.specs.Ranks.{rank};
 ghost use Rattle.representations.specs.Quiver.{BoundQuiver};
 ghost use Rattle.representations.specs.Rep.{Rep, IsMod};
-ghost use Rattle.representations.specs.Hom.{Hom, ◌≫◌, ◌⊕◌, zero_hom};
+ghost use Rattle.representations.specs.Hom.{Hom, ◌≫◌, ◌⊕◌, multiple, zero_hom};
 ghost use Rattle.projectives.specs.Words.{Words, IsWordBasis};
 ghost use Rattle.projectives.specs.Families.{projectives};
 ghost use Rattle.projectives.specs.HomRows.{value};
 ghost use Rattle.projectives.specs.CanonicalCover.{vertex_in, projectives_at};
 ghost use Rattle.projectives.specs.Resolutions.{ProjectiveSequence, IsMinimalResolution};
 ghost use Rattle.projectives.specs.BasisModulo.{IsBasisModulo, IsReducedModulo};
-ghost use Rattle.projectives.specs.Extensions.{coordinate_count, coordinate_row, hom_of_row, composition_matrix, ExtensionBasis};
+ghost use Rattle.projectives.specs.Extensions.{coordinate_count, coordinate_row, hom_of_row, composition_matrix, ExtensionBasis, IsExtensionBasis};
 
 /// Homomorphisms out of a sum of projective modules and their coordinates, the values of the generators one after another, are the same,
 /// linearly; composition with d in coordinates is its matrix, and the block of generator i is its value under d, and then the homomorphism.
@@ -26,6 +26,9 @@ pub fn coordinates()
     ensures sums { (q : Gf) (A : BoundQuiver) (W : Words q A.quiver) (B : IsWordBasis A W) (X : Rep q A.quiver) (M : IsMod A X)
         (k : ℕ) (v : ℕ → ℕ) (y z : Hom (projectives W k v) X)
         → coordinate_row A W B k v (y ⊕ z) ≡ coordinate_row A W B k v y ⊞ coordinate_row A W B k v z }
+    ensures multiples { (q : Gf) (A : BoundQuiver) (W : Words q A.quiver) (B : IsWordBasis A W) (X : Rep q A.quiver) (M : IsMod A X)
+        (k : ℕ) (v : ℕ → ℕ) (c : ℕ) (y : Hom (projectives W k v) X)
+        → coordinate_row A W B k v (multiple c y) ≡ c ⊙ coordinate_row A W B k v y }
     ensures composites { (q : Gf) (A : BoundQuiver) (W : Words q A.quiver) (B : IsWordBasis A W) (X : Rep q A.quiver) (M : IsMod A X)
         (k : ℕ) (v : ℕ → ℕ) (h : ℕ) (u : ℕ → ℕ) (d : Hom (projectives W k v) (projectives W h u)) (y : Hom (projectives W h u) X)
         → coordinate_row A W B k v (d ≫ y) ≡ coordinate_row A W B h u y · composition_matrix A W B k v h u X M d }
@@ -58,13 +61,14 @@ pub fn extensions_have_one_basis()
         → ExtensionBasis A W B j t k v h u X M d' d }
     ensures once { (q : Gf) (A : BoundQuiver) (W : Words q A.quiver) (B : IsWordBasis A W) (X : Rep q A.quiver) (M : IsMod A X)
         (j : ℕ) (t : ℕ → ℕ) (k : ℕ) (v : ℕ → ℕ) (h : ℕ) (u : ℕ → ℕ) (d' : Hom (projectives W j t) (projectives W k v))
-        (d : Hom (projectives W k v) (projectives W h u)) (R S : ExtensionBasis A W B j t k v h u X M d' d)
-        → (R.size ≡ S.size) × ((a b : ℕ) → R.rows.at a b ≡ S.rows.at a b) }
+        (d : Hom (projectives W k v) (projectives W h u)) (e f : ℕ) (E : Mat q e (coordinate_count X k v)) (F : Mat q f (coordinate_count X k v))
+        → IsExtensionBasis A W B j t k v h u X M d' d E → IsExtensionBasis A W B j t k v h u X M d' d F
+        → (e ≡ f) × ((a b : ℕ) → E.at a b ≡ F.at a b) }
     ensures size { (q : Gf) (A : BoundQuiver) (W : Words q A.quiver) (B : IsWordBasis A W) (X : Rep q A.quiver) (M : IsMod A X)
         (j : ℕ) (t : ℕ → ℕ) (k : ℕ) (v : ℕ → ℕ) (h : ℕ) (u : ℕ → ℕ) (d' : Hom (projectives W j t) (projectives W k v))
-        (d : Hom (projectives W k v) (projectives W h u)) (R : ExtensionBasis A W B j t k v h u X M d' d)
-        → d' ≫ d ≡ zero_hom (projectives W j t) (projectives W h u)
-        → R.size + rank (composition_matrix A W B k v h u X M d) + rank (composition_matrix A W B j t k v X M d') ≡ coordinate_count X k v }
+        (d : Hom (projectives W k v) (projectives W h u)) → d' ≫ d ≡ zero_hom (projectives W j t) (projectives W h u)
+        → (e : ℕ) (E : Mat q e (coordinate_count X k v)) → IsExtensionBasis A W B j t k v h u X M d' d E
+        → e + rank (composition_matrix A W B k v h u X M d) + rank (composition_matrix A W B j t k v X M d') ≡ coordinate_count X k v }
     ensures by_size { (q : Gf) (A : BoundQuiver) (W : Words q A.quiver) (B : IsWordBasis A W) (X : Rep q A.quiver) (M : IsMod A X)
         (j : ℕ) (t : ℕ → ℕ) (k : ℕ) (v : ℕ → ℕ) (h : ℕ) (u : ℕ → ℕ) (d' : Hom (projectives W j t) (projectives W k v))
         (d : Hom (projectives W k v) (projectives W h u)) → d' ≫ d ≡ zero_hom (projectives W j t) (projectives W h u)
@@ -72,7 +76,15 @@ pub fn extensions_have_one_basis()
         → ((c : Row q e) → d' ≫ hom_of_row A W B k v X M (c · E) ≡ zero_hom (projectives W j t) X)
         → IsReducedModulo (composition_matrix A W B k v h u X M d) E
         → e + rank (composition_matrix A W B k v h u X M d) + rank (composition_matrix A W B j t k v X M d') ≡ coordinate_count X k v
-        → ExtensionBasis A W B j t k v h u X M d' d }
+        → IsExtensionBasis A W B j t k v h u X M d' d E }
+    ensures rows { (q : Gf) (A : BoundQuiver) (W : Words q A.quiver) (B : IsWordBasis A W) (X : Rep q A.quiver) (M : IsMod A X)
+        (j : ℕ) (t : ℕ → ℕ) (k : ℕ) (v : ℕ → ℕ) (h : ℕ) (u : ℕ → ℕ) (d' : Hom (projectives W j t) (projectives W k v))
+        (d : Hom (projectives W k v) (projectives W h u)) (R : ExtensionBasis A W B j t k v h u X M d' d)
+        → IsExtensionBasis A W B j t k v h u X M d' d R.rows }
+    ensures with_rows { (q : Gf) (A : BoundQuiver) (W : Words q A.quiver) (B : IsWordBasis A W) (X : Rep q A.quiver) (M : IsMod A X)
+        (j : ℕ) (t : ℕ → ℕ) (k : ℕ) (v : ℕ → ℕ) (h : ℕ) (u : ℕ → ℕ) (d' : Hom (projectives W j t) (projectives W k v))
+        (d : Hom (projectives W k v) (projectives W h u)) (e : ℕ) (E : Mat q e (coordinate_count X k v)) → IsExtensionBasis A W B j t k v h u X M d' d E
+        → (R : ExtensionBasis A W B j t k v h u X M d' d) × (R.size ≡ e) × ((a b : ℕ) → R.rows.at a b ≡ E.at a b) }
     ensures of_resolution { (q : Gf) (A : BoundQuiver) (W : Words q A.quiver) (B : IsWordBasis A W) (X : Rep q A.quiver) (M : IsMod A X)
         (Y : Rep q A.quiver) (R : ProjectiveSequence W Y) (n : ℕ) → IsMinimalResolution W Y R (suc (suc n))
         → ExtensionBasis A W B (length (R.term (suc (suc n)))) (vertex_in (R.term (suc (suc n)))) (length (R.term (suc n)))

@@ -1,10 +1,9 @@
 -- Homomorphisms as rows, and a basis of them.
-use Rattle.std.proofs.Common.{ℕ, ◌*◌, ◌≤◌, ◌≡◌, inl, inr, sym, ap, ap₂, ◌∙◌}
+use Rattle.std.proofs.Common.{ℕ, ◌≤◌, ◌≡◌, inl, inr, sym, ap, ap₂, ◌∙◌}
 use Rattle.std.proofs.lemmas.Bool.{cases_lt}
 use Rattle.linear_algebra.specs.Field.{Gf}
 use Rattle.linear_algebra.specs.Matrix.{Mat, Row, zeros, ◌⊞◌, ◌⊟◌, ◌⊙◌, negative, ◌·◌}
 use Rattle.linear_algebra.specs.LinearMaps.{IsLinear}
-use Rattle.linear_algebra.specs.BlockFamilies.{total}
 use Rattle.linear_algebra.specs.Solutions.{flatten_all, unflatten_all}
 use Rattle.linear_algebra.proofs.MatrixLaws.{add_swap_mat, difference, negative_sum, mul_add_mat, add_mul_mat, mul_scale, scale_mul, scale_add, scale_negative, sub_eq_zeros, sub_self_mat}
 use Rattle.linear_algebra.proofs.Blocks.{no_rows_zeros}
@@ -14,6 +13,8 @@ use Rattle.representations.specs.Rep.{Rep}
 use Rattle.representations.specs.Hom.{Hom, Hom-eq, ◌⊕◌, multiple, ◌≫◌}
 use Rattle.representations.proofs.MatrixExtras.{flatten_all-zeros}
 use Rattle.representations.proofs.Homs.{compose_sum, sum_compose, compose_multiple, multiple_compose}
+unfoldable pub use Rattle.representations.specs.HomSpace.{unflat, defect, defects}
+pub use Rattle.representations.specs.HomSpace.{equations}
 use Rattle.representations.specs.HomSpace.{unknowns, flat, HomBasis}
 
 module _ {q : Gf} {Q : Quiver} where
@@ -25,95 +26,80 @@ module _ {q : Gf} {Q : Quiver} where
   past_arrows X Y a h m n = no_rows_zeros (X.past (Q.source a) (Q.source_past a h)) m ∙ sym (no_rows_zeros (X.past (Q.source a) (Q.source_past a h)) n)
 
 module _ {q : Gf} {Q : Quiver} (X Y : Rep q Q) where
-  -- A row as a family of matrices at the vertices.
-  unfoldable pub unflat : Row q (unknowns X Y) → (v : ℕ) → Mat q (X.dim v) (Y.dim v)
-  unflat x v = unflatten_all Q.vertices X.dim Y.dim x v
-
-  pub unflat_of : (f : (v : ℕ) → Mat q (X.dim v) (Y.dim v)) (v : ℕ) → unflat (flatten_all Q.vertices X.dim Y.dim f) v ≡ f v
+  pub unflat_of : (f : (v : ℕ) → Mat q (X.dim v) (Y.dim v)) (v : ℕ) → unflat X Y (flatten_all Q.vertices X.dim Y.dim f) v ≡ f v
   unfolding unflat
   unflat_of f v = elim (cases_lt v Q.vertices) [
     | inl h ↦ unflatten_flatten_all Q.vertices X.dim Y.dim f v h
     | inr h ↦ past_vertices X Y v h _ _
   ]
 
-  pub flat_of : (x : Row q (unknowns X Y)) → flatten_all Q.vertices X.dim Y.dim (unflat x) ≡ x
+  pub flat_of : (x : Row q (unknowns X Y)) → flatten_all Q.vertices X.dim Y.dim (unflat X Y x) ≡ x
   unfolding unflat
   flat_of x = flatten_unflatten_all Q.vertices X.dim Y.dim x
 
-  pub unflat-sum : (x y : Row q (unknowns X Y)) (v : ℕ) → unflat (x ⊞ y) v ≡ unflat x v ⊞ unflat y v
+  pub unflat-sum : (x y : Row q (unknowns X Y)) (v : ℕ) → unflat X Y (x ⊞ y) v ≡ unflat X Y x v ⊞ unflat X Y y v
   unflat-sum x y v =
-      ap (λ z. unflat z v) (ap₂ (λ a b. a ⊞ b) (sym (flat_of x)) (sym (flat_of y)) ∙ sym (flatten_all-sum Q.vertices X.dim Y.dim (unflat x) (unflat y)))
-      ∙ unflat_of (λ v. unflat x v ⊞ unflat y v) v
+      ap (λ z. unflat X Y z v) (ap₂ (λ a b. a ⊞ b) (sym (flat_of x)) (sym (flat_of y)) ∙ sym (flatten_all-sum Q.vertices X.dim Y.dim (unflat X Y x) (unflat X Y y)))
+      ∙ unflat_of (λ v. unflat X Y x v ⊞ unflat X Y y v) v
 
-  pub unflat-scale : (c : ℕ) (x : Row q (unknowns X Y)) (v : ℕ) → unflat (c ⊙ x) v ≡ c ⊙ unflat x v
+  pub unflat-scale : (c : ℕ) (x : Row q (unknowns X Y)) (v : ℕ) → unflat X Y (c ⊙ x) v ≡ c ⊙ unflat X Y x v
   unflat-scale c x v =
-      ap (λ z. unflat z v) (ap (λ z. c ⊙ z) (sym (flat_of x)) ∙ sym (flatten_all-scale Q.vertices X.dim Y.dim c (unflat x)))
-      ∙ unflat_of (λ v. c ⊙ unflat x v) v
+      ap (λ z. unflat X Y z v) (ap (λ z. c ⊙ z) (sym (flat_of x)) ∙ sym (flatten_all-scale Q.vertices X.dim Y.dim c (unflat X Y x)))
+      ∙ unflat_of (λ v. c ⊙ unflat X Y x v) v
 
-  -- How far a family of matrices is from going with the arrow a.
-  unfoldable pub defect : Row q (unknowns X Y) → (a : ℕ) → Mat q (X.dim (Q.source a)) (Y.dim (Q.target a))
-  defect x a = X.mat a · unflat x (Q.target a) ⊟ unflat x (Q.source a) · Y.mat a
-
-  defect-sum : (x y : Row q (unknowns X Y)) (a : ℕ) → defect (x ⊞ y) a ≡ defect x a ⊞ defect y a
+  defect-sum : (x y : Row q (unknowns X Y)) (a : ℕ) → defect X Y (x ⊞ y) a ≡ defect X Y x a ⊞ defect X Y y a
   unfolding defect
   defect-sum x y a =
       ap₂ (λ u w. X.mat a · u ⊟ w · Y.mat a) (unflat-sum x y (Q.target a)) (unflat-sum x y (Q.source a))
-      ∙ differences _ _ _ _ (mul_add_mat (X.mat a) (unflat x (Q.target a)) (unflat y (Q.target a))) (add_mul_mat (unflat x (Q.source a)) (unflat y (Q.source a)) (Y.mat a))
+      ∙ differences _ _ _ _ (mul_add_mat (X.mat a) (unflat X Y x (Q.target a)) (unflat X Y y (Q.target a))) (add_mul_mat (unflat X Y x (Q.source a)) (unflat X Y y (Q.source a)) (Y.mat a))
     where
       differences : {m n : ℕ} {p s : Mat q m n} (a b c d : Mat q m n) → p ≡ a ⊞ b → s ≡ c ⊞ d → p ⊟ s ≡ (a ⊟ c) ⊞ (b ⊟ d)
       differences a b c d e f =
           ap₂ (λ u w. u ⊟ w) e f ∙ difference (a ⊞ b) (c ⊞ d) ∙ ap (λ z. (a ⊞ b) ⊞ z) (negative_sum c d)
           ∙ add_swap_mat a b (negative c) (negative d) ∙ sym (ap₂ (λ u w. u ⊞ w) (difference a c) (difference b d))
 
-  defect-scale : (c : ℕ) (x : Row q (unknowns X Y)) (a : ℕ) → defect (c ⊙ x) a ≡ c ⊙ defect x a
+  defect-scale : (c : ℕ) (x : Row q (unknowns X Y)) (a : ℕ) → defect X Y (c ⊙ x) a ≡ c ⊙ defect X Y x a
   unfolding defect
   defect-scale c x a =
       ap₂ (λ u w. X.mat a · u ⊟ w · Y.mat a) (unflat-scale c x (Q.target a)) (unflat-scale c x (Q.source a))
-      ∙ multiples _ _ (mul_scale c (X.mat a) (unflat x (Q.target a))) (scale_mul c (unflat x (Q.source a)) (Y.mat a))
+      ∙ multiples _ _ (mul_scale c (X.mat a) (unflat X Y x (Q.target a))) (scale_mul c (unflat X Y x (Q.source a)) (Y.mat a))
     where
       multiples : {m n : ℕ} {p s : Mat q m n} (a b : Mat q m n) → p ≡ c ⊙ a → s ≡ c ⊙ b → p ⊟ s ≡ c ⊙ (a ⊟ b)
       multiples a b e f =
           ap₂ (λ u w. u ⊟ w) e f ∙ difference (c ⊙ a) (c ⊙ b) ∙ ap (λ z. c ⊙ a ⊞ z) (sym (scale_negative c b))
           ∙ sym (scale_add c a (negative b)) ∙ ap (λ z. c ⊙ z) (sym (difference a b))
 
-  -- All defects as one row.
-  abbrev pub equations : ℕ
-  equations = total Q.arrows (λ a. X.dim (Q.source a) * Y.dim (Q.target a))
-
-  unfoldable pub defects : Row q (unknowns X Y) → Row q equations
-  defects x = flatten_all Q.arrows (λ a. X.dim (Q.source a)) (λ a. Y.dim (Q.target a)) (defect x)
-
-  pub defects_linear : IsLinear defects
+  pub defects_linear : IsLinear (defects X Y)
   unfolding defects
   defects_linear = record {
     sum = λ x y.
-        flatten_all-same Q.arrows (λ a. X.dim (Q.source a)) (λ a. Y.dim (Q.target a)) _ (λ a. defect x a ⊞ defect y a) (λ a h. defect-sum x y a)
-        ∙ flatten_all-sum Q.arrows (λ a. X.dim (Q.source a)) (λ a. Y.dim (Q.target a)) (defect x) (defect y);
+        flatten_all-same Q.arrows (λ a. X.dim (Q.source a)) (λ a. Y.dim (Q.target a)) _ (λ a. defect X Y x a ⊞ defect X Y y a) (λ a h. defect-sum x y a)
+        ∙ flatten_all-sum Q.arrows (λ a. X.dim (Q.source a)) (λ a. Y.dim (Q.target a)) (defect X Y x) (defect X Y y);
     multiple = λ c x.
-        flatten_all-same Q.arrows (λ a. X.dim (Q.source a)) (λ a. Y.dim (Q.target a)) _ (λ a. c ⊙ defect x a) (λ a h. defect-scale c x a)
-        ∙ flatten_all-scale Q.arrows (λ a. X.dim (Q.source a)) (λ a. Y.dim (Q.target a)) c (defect x);
+        flatten_all-same Q.arrows (λ a. X.dim (Q.source a)) (λ a. Y.dim (Q.target a)) _ (λ a. c ⊙ defect X Y x a) (λ a h. defect-scale c x a)
+        ∙ flatten_all-scale Q.arrows (λ a. X.dim (Q.source a)) (λ a. Y.dim (Q.target a)) c (defect X Y x);
   }
 
   -- Rows without defects are homomorphisms.
-  pub no_defect : (x : Row q (unknowns X Y)) → defects x ≡ zeros q 1 equations → (a : ℕ) → defect x a ≡ zeros q (X.dim (Q.source a)) (Y.dim (Q.target a))
+  pub no_defect : (x : Row q (unknowns X Y)) → defects X Y x ≡ zeros q 1 (equations X Y) → (a : ℕ) → defect X Y x a ≡ zeros q (X.dim (Q.source a)) (Y.dim (Q.target a))
   unfolding defects
   no_defect x e a = elim (cases_lt a Q.arrows) [
     | inl h ↦
-        sym (unflatten_flatten_all Q.arrows (λ a. X.dim (Q.source a)) (λ a. Y.dim (Q.target a)) (defect x) a h)
+        sym (unflatten_flatten_all Q.arrows (λ a. X.dim (Q.source a)) (λ a. Y.dim (Q.target a)) (defect X Y x) a h)
         ∙ ap (λ z. unflatten_all Q.arrows (λ a. X.dim (Q.source a)) (λ a. Y.dim (Q.target a)) z a) (e ∙ sym (flatten_all-zeros q Q.arrows (λ a. X.dim (Q.source a)) (λ a. Y.dim (Q.target a))))
         ∙ unflatten_flatten_all Q.arrows (λ a. X.dim (Q.source a)) (λ a. Y.dim (Q.target a)) (λ a. zeros q (X.dim (Q.source a)) (Y.dim (Q.target a))) a h
     | inr h ↦ past_arrows X Y a h _ _
   ]
 
-  unfoldable pub hom_of : (x : Row q (unknowns X Y)) → defects x ≡ zeros q 1 equations → Hom X Y
+  unfoldable pub hom_of : (x : Row q (unknowns X Y)) → defects X Y x ≡ zeros q 1 (equations X Y) → Hom X Y
   unfolding defect
-  hom_of x e = record { at = unflat x; square = λ a. sub_eq_zeros (X.mat a · unflat x (Q.target a)) (unflat x (Q.source a) · Y.mat a) (no_defect x e a) }
+  hom_of x e = record { at = unflat X Y x; square = λ a. sub_eq_zeros (X.mat a · unflat X Y x (Q.target a)) (unflat X Y x (Q.source a) · Y.mat a) (no_defect x e a) }
 
-  pub flat-hom_of : (x : Row q (unknowns X Y)) (e : defects x ≡ zeros q 1 equations) → flat (hom_of x e) ≡ x
+  pub flat-hom_of : (x : Row q (unknowns X Y)) (e : defects X Y x ≡ zeros q 1 (equations X Y)) → flat (hom_of x e) ≡ x
   unfolding hom_of flat
   flat-hom_of x e = flat_of x
 
-  pub hom_defects : (f : Hom X Y) → defects (flat f) ≡ zeros q 1 equations
+  pub hom_defects : (f : Hom X Y) → defects X Y (flat f) ≡ zeros q 1 (equations X Y)
   unfolding defects defect flat
   hom_defects f =
       flatten_all-same Q.arrows (λ a. X.dim (Q.source a)) (λ a. Y.dim (Q.target a)) _ (λ a. zeros q (X.dim (Q.source a)) (Y.dim (Q.target a)))
@@ -123,12 +109,12 @@ module _ {q : Gf} {Q : Quiver} (X Y : Rep q Q) where
       ∙ flatten_all-zeros q Q.arrows (λ a. X.dim (Q.source a)) (λ a. Y.dim (Q.target a))
 
   -- A homomorphism is given by its row.
-  pub unflat-flat : (f : Hom X Y) (v : ℕ) → unflat (flat f) v ≡ f.at v
+  pub unflat-flat : (f : Hom X Y) (v : ℕ) → unflat X Y (flat f) v ≡ f.at v
   unfolding flat
   unflat-flat f v = unflat_of f.at v
 
   pub flat_injective : (f g : Hom X Y) → flat f ≡ flat g → f ≡ g
-  flat_injective f g e = Hom-eq f g (λ v. sym (unflat-flat f v) ∙ ap (λ z. unflat z v) e ∙ unflat-flat g v)
+  flat_injective f g e = Hom-eq f g (λ v. sym (unflat-flat f v) ∙ ap (λ z. unflat X Y z v) e ∙ unflat-flat g v)
 
   pub flat-sum : (f g : Hom X Y) → flat (f ⊕ g) ≡ flat f ⊞ flat g
   unfolding flat ◌⊕◌
@@ -141,7 +127,7 @@ module _ {q : Gf} {Q : Quiver} (X Y : Rep q Q) where
   -- The homomorphisms have a basis in reduced row form.
   pub hom_basis : HomBasis X Y
   hom_basis =
-      let S = solution_basis defects defects_linear in
+      let S = solution_basis (defects X Y) defects_linear in
       record {
         size = S.size;
         basis = S.basis;

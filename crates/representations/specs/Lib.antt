@@ -3,10 +3,12 @@ pub mod Factoring
 pub mod Hom
 pub mod HomSpace
 pub mod Kernel
+pub mod KernelOf
 pub mod Module
 pub mod Quiver
 pub mod Radical
 pub mod RadicalModule
+pub mod RadicalOf
 pub mod Rep
 pub mod StackSpans
 pub mod Submodule

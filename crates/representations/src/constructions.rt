@@ -5,6 +5,7 @@ ghost use Rattle.std.specs.Prelude.{◌≡◌, ℕ, ◌+◌, ◌<◌};
 ghost use Rattle.linear_algebra.specs.Field.{Gf};
 ghost use Rattle.linear_algebra.specs.Matrix.{Row, zeros, ◌·◌};
 ghost use Rattle.linear_algebra.specs.Rank.{IsInSpan, RankFactorisation};
+ghost use Rattle.linear_algebra.specs.Ranks.{rank};
 ghost use Rattle.representations.specs.Quiver.{Quiver, Relation, BoundQuiver, with_relations};
 ghost use Rattle.representations.specs.Rep.{Rep, IsMod};
 ghost use Rattle.representations.specs.Hom.{Hom, ◌≫◌, zero_hom};
@@ -12,6 +13,7 @@ ghost use Rattle.representations.specs.Module.{IsMono, IsEpi, IsExact};
 ghost use Rattle.representations.specs.Factoring.{FactorsAfter, FactorsBefore};
 ghost use Rattle.representations.specs.Submodule.{Submodule, Quotient, sub_rep, inclusion, quotient_rep, projection};
 ghost use Rattle.representations.specs.Kernel.{kernel, cokernel, image};
+ghost use Rattle.representations.specs.KernelOf.{IsKernel, IsCokernel, IsReduced, IsCoReducedProjection};
 ghost use Rattle.representations.specs.Sum.{sum_rep, into_first, into_second, onto_first, onto_second, from_sum, into_sum};
 
 /// Whatever has an injection into a module over an algebra is a module over it; whatever a module has a surjection to is one;
@@ -77,6 +79,22 @@ pub fn cokernels()
         → IsExact f p → (h : Hom Y Z) → f ≫ h ≡ zero_hom X Z → FactorsAfter p h }
     ensures size { (q : Gf) (Q : Quiver) (X Y C : Rep q Q) (f : Hom X Y) (p : Hom Y C) → IsEpi p
         → IsExact f p → (v : ℕ) (F : RankFactorisation (f.at v)) → F.size + C.dim v ≡ Y.dim v }
+{}
+
+/// Kernels and cokernels by size: an embedding in reduced row form that f takes to zero is the kernel exactly where at each vertex its rows
+/// are as many as the dimension exceeds the rank of f, and a co-reduced projection that is zero after f is the cokernel exactly where its columns are as
+/// many as the dimension exceeds the rank. (Chapter III, 1, and appendix A, 1.)
+pub fn kernels_by_size()
+    ensures kernel { (q : Gf) (Q : Quiver) (N X Y : Rep q Q) (i : Hom N X) (f : Hom X Y) → IsReduced i
+        → ((w : ℕ) → i.at w · f.at w ≡ zeros q (N.dim w) (Y.dim w))
+        → ((w : ℕ) → N.dim w + rank (f.at w) ≡ X.dim w) → IsKernel i f }
+    ensures kernel_size { (q : Gf) (Q : Quiver) (N X Y : Rep q Q) (i : Hom N X) (f : Hom X Y) → IsKernel i f
+        → (w : ℕ) → N.dim w + rank (f.at w) ≡ X.dim w }
+    ensures cokernel { (q : Gf) (Q : Quiver) (X Y N : Rep q Q) (f : Hom X Y) (p : Hom Y N) → IsCoReducedProjection p
+        → ((w : ℕ) → f.at w · p.at w ≡ zeros q (X.dim w) (N.dim w))
+        → ((w : ℕ) → rank (f.at w) + N.dim w ≡ Y.dim w) → IsCokernel f p }
+    ensures cokernel_size { (q : Gf) (Q : Quiver) (X Y N : Rep q Q) (f : Hom X Y) (p : Hom Y N) → IsCokernel f p
+        → (w : ℕ) → rank (f.at w) + N.dim w ≡ Y.dim w }
 {}
 
 /// The image: f is a surjection and then the inclusion of the image. (Chapter III, 1, and appendix A, 1.)
