@@ -34,7 +34,7 @@ pub fn data_exist()
         (t : Hom M (injectives T D.h D.u)) (m : ℕ) (ideal : Mat q m B.size)
         → ((x : Row q B.size) → IsNilpotent (B.hom x) → IsInSpan ideal x)
         → ((i : ℕ) → i < m → pairing T D.h D.u (D.c ≫ B.hom (row i ideal)) t ≡ zeros q 1 1)
-        → (e : Row q B.size) → pairing T D.h D.u (D.c ≫ B.hom e) t ≢ zeros q 1 1 → EndFunctional T D }
+        → (e : Row q B.size) → pairing T D.h D.u (D.c ≫ B.hom e) t ≢ zeros q 1 1 → (F : EndFunctional T D) × (F.t ≡ t) }
     ensures on_basis { (q : Gf) (A : BoundQuiver) (T : TwoSided q A) (M : Rep q A.quiver) (D : LocalPresentation T M) (B : HomBasis M M)
         (t : Hom M (injectives T D.h D.u)) (x : Hom M M) → pairing T D.h D.u (D.c ≫ x) t ≢ zeros q 1 1
         → (i : ℕ) × (i < B.size) × (pairing T D.h D.u (D.c ≫ B.hom (unit q B.size i)) t ≢ zeros q 1 1) }

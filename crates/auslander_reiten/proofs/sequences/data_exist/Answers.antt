@@ -1,4 +1,5 @@
 -- By a functional on the endomorphisms of M, and by kernels.
+use Rattle.std.proofs.Common.{refl}
 use Rattle.auslander_reiten.proofs.IdealFunctional.{functional_of_ideal, seen_member}
 use Rattle.auslander_reiten.proofs.RadicalFunctional.{end_functional}
 use Rattle.auslander_reiten.proofs.AlmostSplitSequences.{canonical_sequence}
@@ -11,7 +12,7 @@ pub returns-clause-sequences : goal.returns-clause-sequences
 returns-clause-sequences c = λ q A T M D F. canonical_sequence T D F
 
 pub returns-clause-by_ideal : goal.returns-clause-by_ideal
-returns-clause-by_ideal c = λ q A T M D B t m ideal s k e d. functional_of_ideal T D B t ideal s k e d
+returns-clause-by_ideal c = λ q A T M D B t m ideal s k e d. (functional_of_ideal T D B t ideal s k e d, refl)
 
 pub returns-clause-on_basis : goal.returns-clause-on_basis
 returns-clause-on_basis c = λ q A T M D B t x d. seen_member T D B t x d
