@@ -2,6 +2,7 @@ pub mod Algebra
 pub mod Certificate
 pub mod Counting
 pub mod Decomposition
+pub mod FamilyAlgebra
 pub mod Ideal
 pub mod ImageChain
 pub mod Isomorphic
@@ -10,3 +11,4 @@ pub mod MatrixAlgebra
 pub mod RadicalOfSum
 pub mod Residue
 pub mod Splitting
+pub mod Subalgebra
