@@ -1,4 +1,5 @@
 pub mod Algebra
+pub mod Annihilator
 pub mod Certificate
 pub mod Counting
 pub mod Decomposition
