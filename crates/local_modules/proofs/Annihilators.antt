@@ -4,7 +4,6 @@ use Rattle.linear_algebra.specs.Field.{Gf}
 use Rattle.linear_algebra.specs.Matrix.{Mat, Row, ◌·◌}
 use Rattle.linear_algebra.specs.Parts.{unit}
 use Rattle.linear_algebra.specs.Rank.{IsInSpan}
-use Rattle.linear_algebra.specs.Families.{combine}
 use Rattle.linear_algebra.proofs.Families.{mul_combine, combine_in_span}
 use Rattle.linear_algebra.proofs.LinearMaps.{linear_combine, as_units}
 use Rattle.linear_algebra.proofs.MatrixLaws.{mul_assoc_mat, mul_zeros, zeros_mul}

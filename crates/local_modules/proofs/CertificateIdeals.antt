@@ -1,5 +1,5 @@
 -- The ideal of a certificate is the set of nilpotent elements; so all certificates of an algebra have the same ideal, and the same power.
-use Rattle.std.proofs.Common.{ℕ, ◌≡◌, ◌⊎◌, inl, inr, sym, ap, ◌∙◌, arith}
+use Rattle.std.proofs.Common.{◌≡◌, ◌⊎◌, inl, inr, sym, ap, ◌∙◌, arith}
 use Rattle.linear_algebra.specs.Field.{Gf}
 use Rattle.linear_algebra.specs.Matrix.{Row, zeros}
 use Rattle.linear_algebra.specs.Parts.{row}

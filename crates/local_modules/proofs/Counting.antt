@@ -159,13 +159,16 @@ module _ {q : Gf} {Q : Quiver} where
 
   -- Where it is decided of each member whether it is isomorphic to Z, there is a count.
   pub count : (m : ℕ) (X : ℕ → Rep q Q) (Z : Rep q Q) → ((i : ℕ) → i < m → Isomorphic (X i) Z ⊎ (Isomorphic (X i) Z → ⊥)) → (c : ℕ) × IsCount m X Z c
-  count zero X Z d = (0, record {
-    place = λ i. 0;
-    below = λ i l. absurd (omega arith);
-    different = λ i j l k e. absurd (omega arith);
-    same = λ i l. absurd (omega arith);
-    all = λ k l e. absurd (omega arith);
-  })
+  count zero X Z d = (
+    0,
+    record {
+      place = λ i. 0;
+      below = λ i l. absurd (omega arith);
+      different = λ i j l k e. absurd (omega arith);
+      same = λ i l. absurd (omega arith);
+      all = λ k l e. absurd (omega arith);
+    },
+  )
   count (suc m) X Z d =
       let r = count m X Z (λ i l. d i (omega (arith, l))) in
       elim (d m (omega arith)) [

@@ -1,5 +1,5 @@
 -- The same ideal by other rows: what the residue ring is, and the least power, depend on the span alone.
-use Rattle.std.proofs.Common.{ℕ, ◌⊎◌, inl, inr}
+use Rattle.std.proofs.Common.{ℕ, inl, inr}
 use Rattle.linear_algebra.specs.Field.{Gf}
 use Rattle.linear_algebra.specs.Matrix.{Mat}
 use Rattle.linear_algebra.specs.Rank.{IsInSpan}

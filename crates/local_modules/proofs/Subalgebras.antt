@@ -27,10 +27,19 @@ module _ {q : Gf} (E : Algebra q) {m n k : ℕ} (f : Mat q m E.size) (g : Mat q 
       row_times i b =
           subst (IsInSpan h) (mul-left_matrix E (row i f) y) (images_by_rows g (left_matrix E (row i f)) h (λ j c. subst (IsInSpan h) (sym (mul-left_matrix E (row i f) (row j g))) (p i j b c)) y t)
 
-module _ {q : Gf} (E : Algebra q) {n k : ℕ} (ring : Mat q n E.size) (ideal : Mat q k E.size) where
-  pub subalgebra_by_rows : IsInSpan ring E.unit → ((i j : ℕ) → i < n → j < n → IsInSpan ring (E.product (row i ring) (row j ring))) → IsSubalgebra E ring
-  subalgebra_by_rows u p = record { has_unit = u; has_products = products_by_rows E ring ring ring p }
+pub subalgebra_by_rows : {q : Gf} (E : Algebra q) {n : ℕ} (ring : Mat q n E.size) → IsInSpan ring E.unit
+    → ((i j : ℕ) → i < n → j < n → IsInSpan ring (E.product (row i ring) (row j ring))) → IsSubalgebra E ring
+subalgebra_by_rows E ring u p = record { has_unit = u; has_products = products_by_rows E ring ring ring p }
 
+-- The products with x on both sides, less each other.
+module _ {q : Gf} (E : Algebra q) (x y : Element E) where
+  commutator_is : y · (left_matrix E x ⊟ right_matrix E x) ≡ E.product x y ⊟ E.product y x
+  commutator_is = mul_sub_mat y (left_matrix E x) (right_matrix E x) ∙ ap₂ (λ a b. a ⊟ b) (mul-left_matrix E x y) (mul-right_matrix E y x)
+
+  commutator_back : x · (right_matrix E y ⊟ left_matrix E y) ≡ E.product x y ⊟ E.product y x
+  commutator_back = mul_sub_mat x (right_matrix E y) (left_matrix E y) ∙ ap₂ (λ a b. a ⊟ b) (mul-right_matrix E x y) (mul-left_matrix E y x)
+
+module _ {q : Gf} (E : Algebra q) {n k : ℕ} (ring : Mat q n E.size) (ideal : Mat q k E.size) where
   pub ideal_by_rows : ((i j : ℕ) → i < n → j < k → IsInSpan ideal (E.product (row i ring) (row j ideal)))
       → ((i j : ℕ) → i < n → j < k → IsInSpan ideal (E.product (row j ideal) (row i ring))) → IsIdealOf E ring ideal
   ideal_by_rows p r = record {
@@ -38,22 +47,22 @@ module _ {q : Gf} (E : Algebra q) {n k : ℕ} (ring : Mat q n E.size) (ideal : M
     right = λ a x s t. products_by_rows E ideal ring ideal (λ j i b c. r i j c b) x a t s;
   }
 
-  -- the products with x on both sides, less each other
-  commutator_is : (x y : Element E) → y · (left_matrix E x ⊟ right_matrix E x) ≡ E.product x y ⊟ E.product y x
-  commutator_is x y = mul_sub_mat y (left_matrix E x) (right_matrix E x) ∙ ap₂ (λ a b. a ⊟ b) (mul-left_matrix E x y) (mul-right_matrix E y x)
-
-  commutator_back : (x y : Element E) → x · (right_matrix E y ⊟ left_matrix E y) ≡ E.product x y ⊟ E.product y x
-  commutator_back x y = mul_sub_mat x (right_matrix E y) (left_matrix E y) ∙ ap₂ (λ a b. a ⊟ b) (mul-right_matrix E x y) (mul-left_matrix E y x)
-
   pub commutes_by_rows : ((i j : ℕ) → i < n → j < n → IsCongruent ideal (E.product (row i ring) (row j ring)) (E.product (row j ring) (row i ring))) → CommutesModulo E ring ideal
   commutes_by_rows p x y s t =
-      subst (IsInSpan ideal) (commutator_back x y) (images_by_rows ring (right_matrix E y ⊟ left_matrix E y) ideal (λ i b. subst (IsInSpan ideal) (sym (commutator_back (row i ring) y)) (row_commutes i b)) x s)
+      subst (IsInSpan ideal) (commutator_back E x y) (images_by_rows ring (right_matrix E y ⊟ left_matrix E y) ideal (λ i b. subst (IsInSpan ideal) (sym (commutator_back E (row i ring) y)) (row_commutes i b)) x s)
     where
       row_commutes : (i : ℕ) → i < n → IsCongruent ideal (E.product (row i ring) y) (E.product y (row i ring))
-      row_commutes i b = subst (IsInSpan ideal) (commutator_is (row i ring) y)
-          (images_by_rows ring (left_matrix E (row i ring) ⊟ right_matrix E (row i ring)) ideal (λ j c. subst (IsInSpan ideal) (sym (commutator_is (row i ring) (row j ring))) (p i j b c)) y t)
+      row_commutes i b = subst (IsInSpan ideal) (commutator_is E (row i ring) y)
+          (images_by_rows ring (left_matrix E (row i ring) ⊟ right_matrix E (row i ring)) ideal (λ j c. subst (IsInSpan ideal) (sym (commutator_is E (row i ring) (row j ring))) (p i j b c)) y t)
 
 -- The same ring and the same ideal by other rows.
+module _ {q : Gf} (E : Algebra q) {m n : ℕ} (ring : Mat q m E.size) (f : Mat q n E.size) (forth : IsInSpan ring f) (back : IsInSpan f ring) where
+  pub subalgebra_same : IsSubalgebra E f → IsSubalgebra E ring
+  subalgebra_same h = record {
+    has_unit = in_span_trans ring f E.unit forth h.has_unit;
+    has_products = λ x y s t. in_span_trans ring f (E.product x y) forth (h.has_products x y (in_span_trans f ring x back s) (in_span_trans f ring y back t));
+  }
+
 module _ {q : Gf} (E : Algebra q) {m n k l : ℕ} (ring : Mat q m E.size) (f : Mat q n E.size) (ideal : Mat q k E.size) (J : Mat q l E.size)
     (ring_forth : IsInSpan ring f) (ring_back : IsInSpan f ring) (ideal_forth : IsInSpan ideal J) (ideal_back : IsInSpan J ideal) where
   from_f : (x : Element E) → IsInSpan f x → IsInSpan ring x
@@ -70,9 +79,6 @@ module _ {q : Gf} (E : Algebra q) {m n k l : ℕ} (ring : Mat q m E.size) (f : M
 
   multiple : (y v : Element E) → (s : ℕ) × IsCongruent J y (s ⊙ v) → (s : ℕ) × IsCongruent ideal y (s ⊙ v)
   multiple y v t = (t.0, from_J _ t.1)
-
-  pub subalgebra_same : IsSubalgebra E f → IsSubalgebra E ring
-  subalgebra_same h = record { has_unit = from_f E.unit h.has_unit; has_products = λ x y s t. from_f _ (h.has_products x y (to_f x s) (to_f y t)) }
 
   pub ideal_of_same : IsIdealOf E f J → IsIdealOf E ring ideal
   ideal_of_same h = record {

@@ -11,6 +11,7 @@ ghost use Rattle.local_modules.specs.Local.{IsLocal};
 ghost use Rattle.local_modules.specs.Splitting.{ProperSplitting};
 ghost use Rattle.local_modules.specs.Isomorphic.{Isomorphic, AreApart, Matching};
 ghost use Rattle.local_modules.specs.Counting.{IsCount};
+ghost use Rattle.local_modules.specs.Decomposition.{LocalDecomposition};
 
 /// Fitting's lemma: an endomorphism is an isomorphism, or nilpotent, or the module is a direct sum of two modules that are not zero. A local
 /// module is no such sum. (Chapter I, 4.)
@@ -46,9 +47,21 @@ pub fn krull_schmidt()
         → (f : Hom (sum_family m X) (sum_family n Y)) → IsIso f → Matching m X n Y }
 {}
 
-/// The multiplicity of a module: two lists of local modules with isomorphic direct sums have as many members that are isomorphic to it.
-/// (Chapter I, 4.10.)
+/// The multiplicity of a module in a list is the number of members that are isomorphic to it. It exists in each list of local modules, and for a local
+/// module in each list; a list has one such number; and two lists of local modules with isomorphic direct sums, as two decompositions of one module, have
+/// the same. (Chapter I, 4.10.)
 pub fn multiplicities()
-    ensures { (q : Gf) (Q : Quiver) (m n : ℕ) (X Y : ℕ → Rep q Q) → ((i : ℕ) → i < m → IsLocal (X i)) → ((i : ℕ) → i < n → IsLocal (Y i))
+    ensures exists { (q : Gf) (Q : Quiver) (m : ℕ) (X : ℕ → Rep q Q) → ((i : ℕ) → i < m → IsLocal (X i)) → (Z : Rep q Q) → (c : ℕ) × IsCount m X Z c }
+    ensures of_local { (q : Gf) (Q : Quiver) (m : ℕ) (X : ℕ → Rep q Q) (Z : Rep q Q) → IsLocal Z → (c : ℕ) × IsCount m X Z c }
+    ensures one { (q : Gf) (Q : Quiver) (m : ℕ) (X : ℕ → Rep q Q) (Z : Rep q Q) (c d : ℕ) → IsCount m X Z c → IsCount m X Z d → c ≡ d }
+    ensures same_sum { (q : Gf) (Q : Quiver) (m n : ℕ) (X Y : ℕ → Rep q Q) → ((i : ℕ) → i < m → IsLocal (X i)) → ((i : ℕ) → i < n → IsLocal (Y i))
         → (f : Hom (sum_family m X) (sum_family n Y)) → IsIso f → (Z : Rep q Q) (c d : ℕ) → IsCount m X Z c → IsCount n Y Z d → c ≡ d }
+    ensures decompositions { (q : Gf) (Q : Quiver) (X : Rep q Q) (D E : LocalDecomposition X) (Z : Rep q Q) (c d : ℕ)
+        → IsCount D.parts.count (λ i. (D.parts.summand i).part) Z c → IsCount E.parts.count (λ i. (E.parts.summand i).part) Z d → c ≡ d }
+{}
+
+/// It is decided whether a module is isomorphic to a local one; what is isomorphic to a local module is local. (Chapter I, 4.)
+pub fn isomorphic_to_a_local_module()
+    ensures decided { (q : Gf) (Q : Quiver) (X Z : Rep q Q) → IsLocal Z → Isomorphic X Z ⊎ (Isomorphic X Z → ⊥) }
+    ensures local { (q : Gf) (Q : Quiver) (X Y : Rep q Q) → Isomorphic X Y → IsLocal X → IsLocal Y }
 {}
