@@ -1,5 +1,5 @@
 -- The ideal of a certificate is the set of nilpotent elements; so all certificates of an algebra have the same ideal, and the same power.
-use Rattle.std.proofs.Common.{◌≡◌, ◌⊎◌, inl, inr, sym, ap, ◌∙◌, arith}
+use Rattle.std.proofs.Common.{◌≢◌, ◌≡◌, ◌⊎◌, inl, inr, sym, ap, ◌∙◌, arith}
 use Rattle.linear_algebra.specs.Field.{Gf}
 use Rattle.linear_algebra.specs.Matrix.{Row, zeros}
 use Rattle.linear_algebra.specs.Parts.{row}
@@ -7,17 +7,20 @@ use Rattle.linear_algebra.specs.Rank.{IsInSpan}
 use Rattle.linear_algebra.proofs.Solving.{equal_or_not, in_span_by_rows, in_span_self, row_in_span}
 use Rattle.representations.specs.Quiver.{Quiver}
 use Rattle.representations.specs.Rep.{Rep}
+use Rattle.representations.specs.Hom.{identity}
 use Rattle.representations.specs.Module.{IsNilpotent}
 use Rattle.representations.specs.HomSpace.{HomBasis}
+use Rattle.representations.proofs.HomSpace.{coordinates}
 use Rattle.local_modules.specs.Algebra.{Algebra, Element, IsUnitIn, IsNilpotentIn}
 use Rattle.local_modules.specs.MatrixAlgebra.{endomorphisms, endomorphism_algebra}
 use Rattle.local_modules.specs.Residue.{ResidueRing}
 use Rattle.local_modules.specs.Certificate.{LocalCertificate}
+use Rattle.local_modules.specs.Local.{IsLocal}
 use Rattle.local_modules.proofs.AlgebraLaws.{nilpotent_no_unit, zeros_product}
 use Rattle.local_modules.proofs.IdealPowers.{power_same}
 use Rattle.local_modules.proofs.ResidueRing.{class_of, Classes, classes_of, residue, class_nilpotent, member_of_class, member_nilpotent}
 use Rattle.local_modules.proofs.ResidueConditions.{frobenius_residue, listed_residue}
-use Rattle.local_modules.proofs.Endomorphisms.{nilpotent_of_member, nilpotent_member}
+use Rattle.local_modules.proofs.Endomorphisms.{nilpotent_of_member, nilpotent_member, unit_nonzero}
 
 -- An invertible nilpotent element is zero: the algebra is zero.
 unit_nilpotent_zero : {q : Gf} (R : Algebra q) (y : Element R) → IsUnitIn R y → IsNilpotentIn R y → y ≡ zeros q 1 R.size
@@ -45,6 +48,10 @@ module _ {q : Gf} (A : Algebra q) (c : LocalCertificate A) where
   pub nilpotent_of_ideal : (x : Element A) → IsInSpan c.ideal x → IsNilpotentIn A x
   nilpotent_of_ideal = member_nilpotent A c.ideal c.power c.least_power.vanishes
 
+-- The unit is no member, where the algebra is not zero.
+pub unit_not_in_ideal : {q : Gf} (A : Algebra q) (c : LocalCertificate A) → A.unit ≢ zeros q 1 A.size → IsInSpan c.ideal A.unit → ⊥
+unit_not_in_ideal A c d s = nilpotent_no_unit A d A.unit (nilpotent_of_ideal A c A.unit s) (record { inverse = A.unit; right = A.unit_product A.unit; left = A.unit_product A.unit })
+
 -- Two certificates of one algebra.
 module _ {q : Gf} (A : Algebra q) (c d : LocalCertificate A) where
   pub ideal_in_any : IsInSpan c.ideal d.ideal
@@ -64,3 +71,6 @@ module _ {q : Gf} {Q : Quiver} {X : Rep q Q} (B : HomBasis X X) (c : LocalCertif
 
   pub endomorphism_of_ideal : IsInSpan c.ideal x → IsNilpotent (B.hom x)
   endomorphism_of_ideal s = nilpotent_member (endomorphisms B) x (nilpotent_of_ideal (endomorphism_algebra B) c x s)
+
+pub identity_not_in_ideal : {q : Gf} {Q : Quiver} {X : Rep q Q} (B : HomBasis X X) (c : LocalCertificate (endomorphism_algebra B)) → IsLocal X → IsInSpan c.ideal (coordinates B (identity X)) → ⊥
+identity_not_in_ideal B c l = unit_not_in_ideal (endomorphism_algebra B) c (unit_nonzero (endomorphisms B) l.vertex l.nonzero)

@@ -101,12 +101,13 @@ pub fn local_exactly_by_certificate()
     ensures algebra { (q : Gf) (A : Algebra q) → LocalCertificate A → (x : Element A) → IsUnitIn A x ⊎ IsNilpotentIn A x }
 {}
 
-/// The ideal of a certificate has just the nilpotent elements. So two certificates of one algebra have the same ideal, by rows with the same span, and the
+/// The ideal of a certificate has just the nilpotent elements, and not the unit, where the algebra is not zero. So two certificates of one algebra have the same ideal, by rows with the same span, and the
 /// same power; and rows in reduced row form with that span are the ideal of a certificate, whose residue ring has the first form where it is commutative,
 /// and the second where it is not. (Chapter I, 4.)
 pub fn ideal_of_a_certificate()
     ensures nilpotent { (q : Gf) (A : Algebra q) (c : LocalCertificate A) (x : Element A) → IsNilpotentIn A x → IsInSpan c.ideal x }
     ensures members { (q : Gf) (A : Algebra q) (c : LocalCertificate A) (x : Element A) → IsInSpan c.ideal x → IsNilpotentIn A x }
+    ensures unit { (q : Gf) (A : Algebra q) (c : LocalCertificate A) → A.unit ≢ zeros q 1 A.size → IsInSpan c.ideal A.unit → ⊥ }
     ensures endomorphisms { (q : Gf) (Q : Quiver) (X : Rep q Q) (B : HomBasis X X) (c : LocalCertificate (endomorphism_algebra B)) (x : Row q B.size) → IsNilpotent (B.hom x) → IsInSpan c.ideal x }
     ensures endomorphisms_back { (q : Gf) (Q : Quiver) (X : Rep q Q) (B : HomBasis X X) (c : LocalCertificate (endomorphism_algebra B)) (x : Row q B.size) → IsInSpan c.ideal x → IsNilpotent (B.hom x) }
     ensures one_ideal { (q : Gf) (A : Algebra q) (c d : LocalCertificate A) → IsInSpan c.ideal d.ideal }

@@ -1,4 +1,4 @@
-use Rattle.local_modules.proofs.CertificateIdeals.{nilpotent_in_any_ideal, nilpotent_of_ideal, ideal_in_any, power_of_any, nilpotent_endomorphism_in_ideal, endomorphism_of_ideal}
+use Rattle.local_modules.proofs.CertificateIdeals.{nilpotent_in_any_ideal, nilpotent_of_ideal, unit_not_in_ideal, ideal_in_any, power_of_any, nilpotent_endomorphism_in_ideal, endomorphism_of_ideal}
 use Rattle.local_modules.proofs.SameIdeals.{certificate_by, frobenius_if_commutative, listed_if_not}
 use Rattle.local_modules.proofs.certificates.ideal_of_a_certificate.Goals as goal
 
@@ -28,3 +28,6 @@ returns-clause-commutative c = λ q A C l J forth back h. frobenius_if_commutati
 
 pub returns-clause-not_commutative : goal.returns-clause-not_commutative
 returns-clause-not_commutative c = λ q A C l J forth back h. listed_if_not A C J forth back h
+
+pub returns-clause-unit : goal.returns-clause-unit
+returns-clause-unit c = λ q A C d s. unit_not_in_ideal A C d s
