@@ -1,16 +1,18 @@
 //! The laws of subalgebras and of algebras embedded in larger ones. Chapters are those of Assem, Simson, Skowroński, volume 1.
 
-ghost use Rattle.std.specs.Prelude.{◌≡◌, ◌<◌, ◌⊎◌, ℕ};
-ghost use Rattle.linear_algebra.specs.Field.{Gf};
-ghost use Rattle.linear_algebra.specs.Matrix.{Mat, ◌·◌};
+ghost use Rattle.std.specs.Prelude.{◌≡◌, ◌<◌, ◌+◌, ◌⊎◌, ℕ};
+ghost use Rattle.linear_algebra.specs.Field.{Gf, order};
+ghost use Rattle.linear_algebra.specs.Matrix.{Mat, ◌⊟◌, ◌·◌};
 ghost use Rattle.linear_algebra.specs.Parts.{row};
 ghost use Rattle.linear_algebra.specs.Rank.{IsInSpan, HasRightInverse};
+ghost use Rattle.linear_algebra.specs.Ranks.{rank};
 ghost use Rattle.linear_algebra.specs.RowForm.{IsRowReduced};
 ghost use Rattle.representations.specs.Quiver.{Quiver};
 ghost use Rattle.representations.specs.Rep.{Rep};
 ghost use Rattle.representations.specs.HomSpace.{HomBasis};
-ghost use Rattle.local_modules.specs.Algebra.{Algebra};
-ghost use Rattle.local_modules.specs.Ideal.{IsTwoSided, IsLeastPower, IsCongruent, IsFrobeniusField, IsListedDivisionRing};
+ghost use Rattle.local_modules.specs.Algebra.{Algebra, Element, power_in};
+ghost use Rattle.local_modules.specs.Ideal.{IsTwoSided, IsLeastPower, IsCongruent, IsUnitModulo, IsFrobeniusField, IsListedDivisionRing};
+ghost use Rattle.local_modules.specs.Residue.{ResidueRing, IsRemainder};
 ghost use Rattle.local_modules.specs.Certificate.{LocalCertificate};
 ghost use Rattle.local_modules.specs.MatrixAlgebra.{endomorphism_algebra};
 ghost use Rattle.local_modules.specs.FamilyAlgebra.{family_algebra};
@@ -59,6 +61,31 @@ pub fn spans_count()
         → IsInSpan ring f → IsInSpan f ring → IsInSpan ideal J → IsInSpan J ideal → IsFrobeniusOf E f J → IsFrobeniusOf E ring ideal }
     ensures listed { (q : Gf) (E : Algebra q) (m n k l : ℕ) (ring : Mat q m E.size) (f : Mat q n E.size) (ideal : Mat q k E.size) (J : Mat q l E.size)
         → IsInSpan ring f → IsInSpan f ring → IsInSpan ideal J → IsInSpan J ideal → IsListedOf E f J → IsListedOf E ring ideal }
+{}
+
+/// The residue ring of an embedded algebra, by rows of the larger one. Let J be the rows in reduced row form that span the image of the ideal. The dimension of
+/// the residue ring is that of the algebra less the number of rows of J. Where it is commutative it is a Frobenius field exactly where the remainders
+/// modulo J of the q-th powers of the basis have that dimension as their rank, and those of these powers less the basis that dimension less 1. And y is invertible modulo the
+/// ideal exactly where the remainders of the products of the basis with y have that rank. (Chapter I, 1.)
+pub fn residue_rings_by_rows()
+    ensures size { (q : Gf) (A E : Algebra q) (f : Mat q A.size E.size) → IsEmbedding A E f → HasRightInverse f → (k l : ℕ) (I : Mat q k A.size) (R : ResidueRing A I)
+        (J : Mat q l E.size) (pivot : ℕ → ℕ) → IsRowReduced J pivot → IsInSpan (I · f) J → IsInSpan J (I · f) → l + R.ring.size ≡ A.size }
+    ensures frobenius { (q : Gf) (A E : Algebra q) (f : Mat q A.size E.size) → IsEmbedding A E f → HasRightInverse f → (k l : ℕ) (I : Mat q k A.size) (R : ResidueRing A I)
+        (J : Mat q l E.size) (pivot : ℕ → ℕ) → IsRowReduced J pivot → IsInSpan (I · f) J → IsInSpan J (I · f) → CommutesModulo E f (I · f)
+        → (p first second : Mat q A.size E.size) → ((i : ℕ) → i < A.size → row i p ≡ power_in E (row i f) (order q))
+        → IsRemainder J pivot p first → IsRemainder J pivot (p ⊟ f) second
+        → rank first ≡ R.ring.size → 1 + rank second ≡ R.ring.size → IsFrobeniusOf E f (I · f) }
+    ensures frobenius_back { (q : Gf) (A E : Algebra q) (f : Mat q A.size E.size) → IsEmbedding A E f → HasRightInverse f → (k l : ℕ) (I : Mat q k A.size) (R : ResidueRing A I)
+        (J : Mat q l E.size) (pivot : ℕ → ℕ) → IsRowReduced J pivot → IsInSpan (I · f) J → IsInSpan J (I · f)
+        → (p first second : Mat q A.size E.size) → ((i : ℕ) → i < A.size → row i p ≡ power_in E (row i f) (order q))
+        → IsRemainder J pivot p first → IsRemainder J pivot (p ⊟ f) second
+        → IsFrobeniusOf E f (I · f) → (rank first ≡ R.ring.size) × (1 + rank second ≡ R.ring.size) }
+    ensures unit { (q : Gf) (A E : Algebra q) (f : Mat q A.size E.size) → IsEmbedding A E f → HasRightInverse f → (k l : ℕ) (I : Mat q k A.size) (R : ResidueRing A I)
+        (J : Mat q l E.size) (pivot : ℕ → ℕ) → IsRowReduced J pivot → IsInSpan (I · f) J → IsInSpan J (I · f) → (y : Element A) (p rest : Mat q A.size E.size)
+        → ((i : ℕ) → i < A.size → row i p ≡ E.product (row i f) (y · f)) → IsRemainder J pivot p rest → rank rest ≡ R.ring.size → IsUnitModulo A I y }
+    ensures unit_back { (q : Gf) (A E : Algebra q) (f : Mat q A.size E.size) → IsEmbedding A E f → HasRightInverse f → (k l : ℕ) (I : Mat q k A.size) (R : ResidueRing A I)
+        (J : Mat q l E.size) (pivot : ℕ → ℕ) → IsRowReduced J pivot → IsInSpan (I · f) J → IsInSpan J (I · f) → (y : Element A) (p rest : Mat q A.size E.size)
+        → ((i : ℕ) → i < A.size → row i p ≡ E.product (row i f) (y · f)) → IsRemainder J pivot p rest → IsUnitModulo A I y → rank rest ≡ R.ring.size }
 {}
 
 /// The endomorphism algebra of a module is embedded in the algebra of all families of matrices, by the rows of a basis. (Chapter I, 1.)
