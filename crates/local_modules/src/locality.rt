@@ -1,7 +1,9 @@
 //! The laws of local modules. Chapters are those of Assem, Simson, Skowroński, volume 1.
 
-ghost use Rattle.std.specs.Prelude.{◌≡◌, ◌<◌, ◌⊎◌, ℕ};
+ghost use Rattle.std.specs.Prelude.{◌≡◌, ◌<◌, ◌≤◌, ◌⊎◌, ℕ};
 ghost use Rattle.linear_algebra.specs.Field.{Gf};
+ghost use Rattle.linear_algebra.specs.Powers.{mat_power};
+ghost use Rattle.linear_algebra.specs.Ranks.{rank};
 ghost use Rattle.representations.specs.Quiver.{Quiver};
 ghost use Rattle.representations.specs.Rep.{Rep};
 ghost use Rattle.representations.specs.Hom.{Hom, ◌≫◌, ◌⊕◌, identity, zero_hom, multiple, negative_hom};
@@ -18,6 +20,15 @@ ghost use Rattle.local_modules.specs.Decomposition.{LocalDecomposition};
 pub fn fitting()
     ensures cases { (q : Gf) (Q : Quiver) (X : Rep q Q) (x : Hom X X) → IsIso x ⊎ (IsNilpotent x ⊎ ProperSplitting X) }
     ensures indecomposable { (q : Gf) (Q : Quiver) (X : Rep q Q) → IsLocal X → ProperSplitting X → ⊥ }
+{}
+
+/// An endomorphism is an isomorphism exactly where the matrices of its k-th power have full rank at each vertex, for a k from 1 on; and nilpotent exactly
+/// where they are zero, for a k that is at least each dimension. (Chapter I, 4.)
+pub fn kinds_by_ranks()
+    ensures isomorphism { (q : Gf) (Q : Quiver) (X : Rep q Q) (x : Hom X X) (k : ℕ) → 1 ≤ k → ((v : ℕ) → v < Q.vertices → rank (mat_power (x.at v) k) ≡ X.dim v) → IsIso x }
+    ensures isomorphism_back { (q : Gf) (Q : Quiver) (X : Rep q Q) (x : Hom X X) → IsIso x → (k v : ℕ) → rank (mat_power (x.at v) k) ≡ X.dim v }
+    ensures nilpotent { (q : Gf) (Q : Quiver) (X : Rep q Q) (x : Hom X X) (k : ℕ) → ((v : ℕ) → v < Q.vertices → rank (mat_power (x.at v) k) ≡ 0) → IsNilpotent x }
+    ensures nilpotent_back { (q : Gf) (Q : Quiver) (X : Rep q Q) (x : Hom X X) → IsNilpotent x → (k : ℕ) → ((v : ℕ) → X.dim v ≤ k) → (v : ℕ) → rank (mat_power (x.at v) k) ≡ 0 }
 {}
 
 /// The endomorphisms of a local module that have no inverse are nilpotent; they are closed under sums, multiples, and products with any
