@@ -13,6 +13,7 @@ use Rattle.representations.specs.Rep.{Rep, IsMod}
 use Rattle.representations.specs.Hom.{Hom}
 use Rattle.representations.specs.Dual.{dual}
 use Rattle.representations.specs.Submodule.{sub_rep, inclusion, quotient_rep, projection}
+use Rattle.representations.specs.KernelOf.{IsKernel, IsCokernel, IsReduced, IsCoReducedProjection}
 use Rattle.representations.proofs.MatrixExtras.{span_of_rows}
 use Rattle.representations.proofs.Duals.{IsMod-dual}
 use Rattle.representations.proofs.Paths.{IsMod-mono, IsMod-epi}
@@ -28,7 +29,7 @@ use Rattle.projectives.proofs.Families.{projectives_mod}
 use Rattle.projectives.proofs.Nakayama.{injectives_mod}
 use Rattle.auslander_reiten.specs.ReducedCokernel.{reduced_cokernel}
 use Rattle.auslander_reiten.specs.Presentation.{IsMinimalPresentation}
-use Rattle.auslander_reiten.specs.Translates.{IsKernel, IsCokernel, IsReduced, IsCoReducedProjection, IsTranslate, IsTranspose, IsInverseTranslate}
+use Rattle.auslander_reiten.specs.Translates.{IsTranslate, IsTranspose, IsInverseTranslate}
 use Rattle.auslander_reiten.proofs.AlmostSplitSequences.{kernel_is_reduced, kernel_is_kernel, resolution, minimal_presentation}
 
 module _ {q : Gf} {Q : Quiver} where

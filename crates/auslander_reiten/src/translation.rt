@@ -4,12 +4,12 @@
 
 ghost use Rattle.std.specs.Prelude.{◌≡◌, ◌+◌, ◌⊎◌, ℕ};
 ghost use Rattle.linear_algebra.specs.Field.{Gf};
-ghost use Rattle.linear_algebra.specs.Matrix.{zeros, ◌·◌};
 ghost use Rattle.linear_algebra.proofs.Dimension.{rank};
 ghost use Rattle.representations.specs.Quiver.{Quiver, opposite, BoundQuiver, opposite_algebra};
 ghost use Rattle.representations.specs.Rep.{Rep, IsMod};
 ghost use Rattle.representations.specs.Hom.{Hom};
 ghost use Rattle.representations.specs.Dual.{dual};
+ghost use Rattle.representations.specs.KernelOf.{IsKernel, IsCokernel, IsReduced, IsCoReducedProjection};
 ghost use Rattle.projectives.specs.Families.{projectives};
 ghost use Rattle.projectives.specs.TwoSided.{TwoSided, other};
 ghost use Rattle.projectives.specs.Injective.{injectives};
@@ -17,7 +17,7 @@ ghost use Rattle.projectives.specs.Transposed.{transposed, nakayama};
 ghost use Rattle.local_modules.specs.Local.{IsLocal};
 ghost use Rattle.local_modules.specs.Isomorphic.{Isomorphic};
 ghost use Rattle.auslander_reiten.specs.Presentation.{IsMinimalPresentation, PresentationIsomorphism, IsProjective};
-ghost use Rattle.auslander_reiten.specs.Translates.{IsKernel, IsCokernel, IsReduced, IsCoReducedProjection, IsTranslate, IsTranspose, IsInverseTranslate};
+ghost use Rattle.auslander_reiten.specs.Translates.{IsTranslate, IsTranspose, IsInverseTranslate};
 ghost use Rattle.auslander_reiten.specs.SequenceData.{LocalPresentation};
 
 /// Each module has a minimal presentation by sums of projective modules, and two of them are isomorphic. A local module is projective, or it has one that begins with a
@@ -35,17 +35,6 @@ pub fn presentations()
         → LocalPresentation T M ⊎ IsProjective T.words M }
     ensures never_both { (q : Gf) (A : BoundQuiver) (T : TwoSided q A) (M : Rep q A.quiver) → LocalPresentation T M
         → IsProjective T.words M → ⊥ }
-{}
-
-/// Kernels and cokernels by size. An embedding in reduced row form that f takes to zero is the kernel of f exactly where its size and the rank of f add up
-/// at each vertex to the dimension; a projection in reduced column form that is zero after f is the cokernel exactly where the rank of f and its size do.
-pub fn kernels_by_size()
-    ensures kernel { (q : Gf) (Q : Quiver) (N X Y : Rep q Q) (i : Hom N X) (f : Hom X Y) → IsReduced i
-        → ((w : ℕ) → i.at w · f.at w ≡ zeros q (N.dim w) (Y.dim w)) → ((w : ℕ) → N.dim w + rank (f.at w) ≡ X.dim w) → IsKernel i f }
-    ensures kernel_size { (q : Gf) (Q : Quiver) (N X Y : Rep q Q) (i : Hom N X) (f : Hom X Y) → IsKernel i f → (w : ℕ) → N.dim w + rank (f.at w) ≡ X.dim w }
-    ensures cokernel { (q : Gf) (Q : Quiver) (X Y N : Rep q Q) (f : Hom X Y) (p : Hom Y N) → IsCoReducedProjection p
-        → ((w : ℕ) → f.at w · p.at w ≡ zeros q (X.dim w) (N.dim w)) → ((w : ℕ) → rank (f.at w) + N.dim w ≡ Y.dim w) → IsCokernel f p }
-    ensures cokernel_size { (q : Gf) (Q : Quiver) (X Y N : Rep q Q) (f : Hom X Y) (p : Hom Y N) → IsCokernel f p → (w : ℕ) → rank (f.at w) + N.dim w ≡ Y.dim w }
 {}
 
 /// The kernel of νd : νP → νP', for any d : P → P' between sums of projective modules: it exists with its embedding into νP in reduced row
