@@ -55,7 +55,7 @@ module _ {q : Gf} {Q : Quiver} where
       → (w : ℕ) → (N.dim w ≡ N'.dim w) × ((r c : ℕ) → (i.at w).at r c ≡ (j.at w).at r c)
   reduced_kernel_once i j f a r b s w = row_form_unique (i.at w) (j.at w) (r w).0 (s w).0 (r w).1 (s w).1 (kernel_in_span i j f a b w) (kernel_in_span j i f b a w)
 
-  -- And two cokernels in reduced column form, with their projections.
+  -- And two cokernels with co-reduced projections.
   killed_by_other : {X Y N N' : Rep q Q} (f : Hom X Y) (p : Hom Y N) (r : Hom Y N') → IsCokernel f p → IsCokernel f r → (w : ℕ) (y : Row q (Y.dim w)) → y · r.at w ≡ zeros q 1 (N'.dim w) → y · p.at w ≡ zeros q 1 (N.dim w)
   killed_by_other f p r a b w y e = let s = b.exact.exact w y e in ap (λ z. z · p.at w) (sym s.is) ∙ a.exact.complex w s.by
 
