@@ -12,6 +12,7 @@ use Rattle.representations.specs.Module.{IsMono, IsSplitMono, IsSplitEpi, IsZero
 use Rattle.representations.specs.Factoring.{FactorsBefore}
 use Rattle.representations.specs.Submodule.{Submodule, sub_rep, inclusion}
 use Rattle.representations.specs.Sum.{sum_rep, into_first, onto_second, from_sum}
+use Rattle.representations.specs.KernelOf.{IsKernel, IsReduced}
 use Rattle.representations.proofs.Homs.{compose_assoc}
 use Rattle.representations.proofs.Endomorphisms.{iso_of_both}
 use Rattle.representations.proofs.Paths.{IsMod-mono}
@@ -30,7 +31,6 @@ use Rattle.projectives.proofs.Nakayama.{injectives_mod}
 use Rattle.projectives.proofs.Resolutions.{reduced_kernel_exact, canonical_minimal, canonical_resolution, canonical_resolution_canonical}
 use Rattle.local_modules.specs.Local.{IsLocal}
 use Rattle.auslander_reiten.specs.Presentation.{IsMinimalPresentation, IsProjective}
-use Rattle.auslander_reiten.specs.Translates.{IsKernel, IsReduced}
 use Rattle.auslander_reiten.specs.AlmostSplit.{Lifts, Extends, IsShortExact, IsAlmostSplit, AlmostSplitSequence}
 use Rattle.auslander_reiten.specs.SequenceData.{LocalPresentation, EndFunctional, SequenceData, CanonicalSequence}
 use Rattle.auslander_reiten.proofs.Chains.{nonzero_or_zero}

@@ -1,4 +1,4 @@
--- Powers along a homomorphism, inverses along a homomorphism, and rows through composites that are zero.
+-- Inverses along a homomorphism, powers, and rows through composites that are zero.
 use Rattle.std.proofs.Common.{ℕ, zero, suc, ◌*◌, ◌+◌, ◌<◌, ◌≡◌, ◌≢◌, ◌⊎◌, inl, inr, sym, ap, ◌∙◌, arith}
 use Rattle.linear_algebra.specs.Field.{Gf}
 use Rattle.linear_algebra.specs.Matrix.{Mat, zeros, ◌·◌}
@@ -20,17 +20,12 @@ module _ {q : Gf} {Q : Quiver} where
   pub zero_on_rows : {X Y Z : Rep q Q} (f : Hom X Y) (g : Hom Y Z) → f ≫ g ≡ zero_hom X Z → {m : ℕ} (w : ℕ) (x : Mat q m (X.dim w)) → x · f.at w · g.at w ≡ zeros q m (Z.dim w)
   zero_on_rows f g e w x = mul_assoc_mat x (f.at w) (g.at w) ∙ ap (λ z. x · z) (complex_zero f g e w) ∙ mul_zeros x
 
-  -- Where x and then f is f and then y, so it is for their powers and their inverses.
-  pub power-shift : {X Y : Rep q Q} (x : Hom X X) (y : Hom Y Y) (f : Hom X Y) → x ≫ f ≡ f ≫ y → (m : ℕ) → power x m ≫ f ≡ f ≫ power y m
-  power-shift x y f e zero = ap (λ z. z ≫ f) (power-zero x) ∙ identity_compose f ∙ sym (compose_identity f) ∙ ap (λ z. f ≫ z) (sym (power-zero y))
-  power-shift x y f e (suc m) =
-      ap (λ z. z ≫ f) (power-suc x m) ∙ compose_assoc x (power x m) f ∙ ap (λ z. x ≫ z) (power-shift x y f e m)
-      ∙ sym (compose_assoc x f (power y m)) ∙ ap (λ z. z ≫ power y m) e ∙ compose_assoc f y (power y m) ∙ ap (λ z. f ≫ z) (sym (power-suc y m))
-
+  -- Where p and then g is g, so it is for the powers of p.
   pub power-fixes : {X Y : Rep q Q} (p : Hom X X) (g : Hom X Y) → p ≫ g ≡ g → (m : ℕ) → power p m ≫ g ≡ g
   power-fixes p g e zero = ap (λ z. z ≫ g) (power-zero p) ∙ identity_compose g
   power-fixes p g e (suc m) = ap (λ z. z ≫ g) (power-suc p m) ∙ compose_assoc p (power p m) g ∙ ap (λ z. p ≫ z) (power-fixes p g e m) ∙ e
 
+  -- Where x and then f is f and then y, so it is for their inverses.
   pub inverse-shift : {X Y : Rep q Q} (x : Hom X X) (y : Hom Y Y) (f : Hom X Y) (i : IsIso x) (j : IsIso y) → x ≫ f ≡ f ≫ y → i.inverse ≫ f ≡ f ≫ j.inverse
   inverse-shift x y f i j e =
       sym (compose_identity (i.inverse ≫ f)) ∙ ap (λ z. i.inverse ≫ f ≫ z) (sym j.right) ∙ compose_assoc i.inverse f (y ≫ j.inverse)

@@ -22,9 +22,10 @@ use Rattle.projectives.proofs.CoverUnique.{over_cover, iso_of_composites}
 use Rattle.projectives.proofs.Nakayama.{injectives_mod, nakayama-compose, nakayama_full, nakayama_faithful, nakayama_iso, nakayama_reflects_split_mono, nakayama-power, nakayama-multiple}
 use Rattle.projectives.proofs.Extending.{injectives_extend, injectives_injective}
 use Rattle.local_modules.specs.Local.{IsLocal}
+use Rattle.local_modules.proofs.LocalRings.{power-shift}
 use Rattle.auslander_reiten.specs.Translates.{IsTranslate}
 use Rattle.auslander_reiten.specs.SequenceData.{LocalPresentation}
-use Rattle.auslander_reiten.proofs.Chains.{zero_on_rows, power-shift, inverse-shift, lifted_inverse, nilpotent_of_power, nonzero_vertex}
+use Rattle.auslander_reiten.proofs.Chains.{zero_on_rows, inverse-shift, lifted_inverse, nilpotent_of_power, nonzero_vertex}
 use Rattle.auslander_reiten.proofs.Presentations.{lift_to_kernel, presentation_zero, through_cover, nilpotent_before, differential_splits}
 
 pub nakayama-zero : {q : Gf} {A : BoundQuiver} (T : TwoSided q A) (k : ℕ) (v : ℕ → ℕ) (h : ℕ) (u : ℕ → ℕ) → nakayama T k v h u (zero_hom (projectives T.words k v) (projectives T.words h u)) ≡ zero_hom (injectives T k v) (injectives T h u)

@@ -22,6 +22,9 @@ use Rattle.projectives.specs.TwoSided.{TwoSided}
 use Rattle.projectives.specs.Injective.{injectives}
 use Rattle.projectives.specs.Pairing.{pairing}
 use Rattle.projectives.proofs.Pairing.{pairing-linear_before}
+use Rattle.local_modules.specs.Certificate.{LocalCertificate}
+use Rattle.local_modules.specs.MatrixAlgebra.{endomorphism_algebra}
+use Rattle.local_modules.proofs.CertificateIdeals.{nilpotent_endomorphism_in_ideal}
 use Rattle.auslander_reiten.specs.SequenceData.{LocalPresentation, EndFunctional}
 
 module _ {q : Gf} {A : BoundQuiver} (T : TwoSided q A) {M : Rep q A.quiver} (D : LocalPresentation T M) (B : HomBasis M M) (t : Hom M (injectives T D.h D.u)) where
@@ -51,11 +54,12 @@ module _ {q : Gf} {A : BoundQuiver} (T : TwoSided q A) {M : Rep q A.quiver} (D :
         ap (λ z. pairing T D.h D.u (D.c ≫ z) t) (sym (hom-coordinates B x)) ∙ sym (mul-matrix_of at_element at_element_linear (coordinates B x))
         ∙ ap (λ z. z · matrix_of at_element) (sym s.is) ∙ mul_assoc_mat s.by ideal (matrix_of at_element) ∙ ap (λ z. s.by · z) kills_ideal ∙ mul_zeros s.by
 
-    at_no_iso : (x : Hom M M) → (IsIso x → ⊥) → IsIso x ⊎ IsNilpotent x → pairing T D.h D.u (D.c ≫ x) t ≡ zeros q 1 1
+    pub at_no_iso : (x : Hom M M) → (IsIso x → ⊥) → IsIso x ⊎ IsNilpotent x → pairing T D.h D.u (D.c ≫ x) t ≡ zeros q 1 1
     at_no_iso x n (inl i) = absurd (n i)
     at_no_iso x n (inr z) = at_nilpotent x z
 
-    pub functional_of_ideal : (e : Row q B.size) → pairing T D.h D.u (D.c ≫ B.hom e) t ≢ zeros q 1 1 → EndFunctional T D
+    -- The functional of t; it unfolds, so that its homomorphism is t.
+    abbrev pub functional_of_ideal : (e : Row q B.size) → pairing T D.h D.u (D.c ≫ B.hom e) t ≢ zeros q 1 1 → EndFunctional T D
     functional_of_ideal e s = record { t = t; vanishes = λ x n. at_no_iso x n (D.local.decides x); seen = B.hom e; sees = s }
 
   -- A member of the basis on which the functional is not zero.
@@ -74,3 +78,8 @@ module _ {q : Gf} {A : BoundQuiver} (T : TwoSided q A) {M : Rep q A.quiver} (D :
       go (inr all) = absurd (s (
           ap (λ z. pairing T D.h D.u (D.c ≫ z) t) (sym (hom-coordinates B x)) ∙ sym (mul-matrix_of at_element at_element_linear (coordinates B x))
           ∙ ap (λ z. coordinates B x · z) (none all) ∙ mul_zeros (coordinates B x)))
+
+  -- By the ideal of a certificate, which has all nilpotent endomorphisms.
+  abbrev pub functional_of_certificate : (c : LocalCertificate (endomorphism_algebra B)) → ((i : ℕ) → i < c.count → pairing T D.h D.u (D.c ≫ B.hom (row i c.ideal)) t ≡ zeros q 1 1)
+      → (e : Row q B.size) → pairing T D.h D.u (D.c ≫ B.hom e) t ≢ zeros q 1 1 → EndFunctional T D
+  functional_of_certificate c kills e s = functional_of_ideal c.ideal (λ x n. nilpotent_endomorphism_in_ideal B c x n) kills e s

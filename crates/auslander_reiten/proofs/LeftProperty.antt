@@ -14,8 +14,9 @@ use Rattle.representations.proofs.Submodules.{IsMod-quotient}
 use Rattle.representations.proofs.Kernels.{through_kernel, through_cokernel}
 use Rattle.representations.proofs.Sums.{IsMod-sum}
 use Rattle.local_modules.specs.Local.{IsLocal}
+use Rattle.local_modules.proofs.LocalRings.{power-shift}
 use Rattle.auslander_reiten.specs.AlmostSplit.{Lifts, Extends, IsShortExact}
-use Rattle.auslander_reiten.proofs.Chains.{power-shift, power-fixes}
+use Rattle.auslander_reiten.proofs.Chains.{power-fixes}
 use Rattle.auslander_reiten.proofs.Pushouts.{difference, pushout, from_middle, from_other, square, to_end, middle_end, other_end, other_mono, other_exact}
 
 module _ {q : Gf} (A : BoundQuiver) {L E M : Rep q A.quiver} (f : Hom L E) (g : Hom E M) (e : IsShortExact f g) where

@@ -41,8 +41,8 @@ use Rattle.projectives.proofs.ProjectiveRadical.{one_in_radical, radical_combine
 use Rattle.projectives.proofs.Covers.{radical_negative}
 use Rattle.projectives.proofs.Turning.{dual-undual}
 use Rattle.local_modules.specs.Local.{IsLocal}
+use Rattle.local_modules.proofs.LocalRings.{power-shift}
 use Rattle.auslander_reiten.specs.AlmostSplit.{Lifts}
-use Rattle.auslander_reiten.proofs.Chains.{power-shift}
 
 -- A surjective endomorphism is an isomorphism.
 pub epi_iso : {q : Gf} {Q : Quiver} {X : Rep q Q} (x : Hom X X) → IsEpi x → IsIso x

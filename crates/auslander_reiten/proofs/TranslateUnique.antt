@@ -7,6 +7,7 @@ use Rattle.representations.specs.Rep.{Rep, IsMod}
 use Rattle.representations.specs.Hom.{Hom, ◌≫◌, identity}
 use Rattle.representations.specs.Module.{IsIso}
 use Rattle.representations.specs.Factoring.{FactorsBefore, FactorsAfter}
+use Rattle.representations.specs.KernelOf.{IsKernel, IsCokernel}
 use Rattle.representations.proofs.Homs.{compose_assoc, compose_identity, identity_compose, compose_zero, zero_compose}
 use Rattle.representations.proofs.Paths.{IsMod-epi}
 use Rattle.representations.proofs.Factoring.{mono_cancels, epi_cancels}
@@ -20,7 +21,7 @@ use Rattle.projectives.proofs.CoverUnique.{over_cover, iso_of_composites, covers
 use Rattle.projectives.proofs.Nakayama.{nakayama-compose, nakayama_iso, transposed-compose, transposed-identity}
 use Rattle.local_modules.specs.Isomorphic.{Isomorphic}
 use Rattle.auslander_reiten.specs.Presentation.{IsMinimalPresentation, PresentationIsomorphism}
-use Rattle.auslander_reiten.specs.Translates.{IsKernel, IsCokernel, IsTranslate, IsTranspose}
+use Rattle.auslander_reiten.specs.Translates.{IsTranslate, IsTranspose}
 use Rattle.auslander_reiten.proofs.Presentations.{lift_to_kernel, presentation_zero}
 
 module _ {q : Gf} {Q : Quiver} where

@@ -13,6 +13,7 @@ use Rattle.representations.specs.Rep.{Rep, IsMod}
 use Rattle.representations.specs.Hom.{Hom}
 use Rattle.representations.specs.Dual.{dual}
 use Rattle.representations.specs.Submodule.{sub_rep, inclusion, quotient_rep, projection}
+use Rattle.representations.specs.KernelOf.{IsKernel, IsCokernel, IsReduced, IsCoReducedProjection}
 use Rattle.representations.proofs.MatrixExtras.{span_of_rows}
 use Rattle.representations.proofs.Duals.{IsMod-dual}
 use Rattle.representations.proofs.Paths.{IsMod-mono, IsMod-epi}
@@ -28,7 +29,7 @@ use Rattle.projectives.proofs.Families.{projectives_mod}
 use Rattle.projectives.proofs.Nakayama.{injectives_mod}
 use Rattle.auslander_reiten.specs.ReducedCokernel.{reduced_cokernel}
 use Rattle.auslander_reiten.specs.Presentation.{IsMinimalPresentation}
-use Rattle.auslander_reiten.specs.Translates.{IsKernel, IsCokernel, IsReduced, IsCoReducedProjection, IsTranslate, IsTranspose, IsInverseTranslate}
+use Rattle.auslander_reiten.specs.Translates.{IsTranslate, IsTranspose, IsInverseTranslate}
 use Rattle.auslander_reiten.proofs.AlmostSplitSequences.{kernel_is_reduced, kernel_is_kernel, resolution, minimal_presentation}
 
 module _ {q : Gf} {Q : Quiver} where
@@ -54,7 +55,7 @@ module _ {q : Gf} {Q : Quiver} where
       → (w : ℕ) → (N.dim w ≡ N'.dim w) × ((r c : ℕ) → (i.at w).at r c ≡ (j.at w).at r c)
   reduced_kernel_once i j f a r b s w = row_form_unique (i.at w) (j.at w) (r w).0 (s w).0 (r w).1 (s w).1 (kernel_in_span i j f a b w) (kernel_in_span j i f b a w)
 
-  -- And two cokernels in reduced column form, with their projections.
+  -- And two cokernels with co-reduced projections.
   killed_by_other : {X Y N N' : Rep q Q} (f : Hom X Y) (p : Hom Y N) (r : Hom Y N') → IsCokernel f p → IsCokernel f r → (w : ℕ) (y : Row q (Y.dim w)) → y · r.at w ≡ zeros q 1 (N'.dim w) → y · p.at w ≡ zeros q 1 (N.dim w)
   killed_by_other f p r a b w y e = let s = b.exact.exact w y e in ap (λ z. z · p.at w) (sym s.is) ∙ a.exact.complex w s.by
 

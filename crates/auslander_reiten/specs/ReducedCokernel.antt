@@ -1,4 +1,4 @@
--- The cokernel, at each vertex by its projection in reduced column form. (Assem, Simson, Skowroński, volume 1, chapter III, 1.)
+-- The cokernel, at each vertex by its co-reduced projection. (Assem, Simson, Skowroński, volume 1, chapter III, 1.)
 use Rattle.std.specs.Prelude.{ℕ, ◌≡◌}
 use Rattle.std.proofs.Common.{sym, ap, ◌∙◌}
 use Rattle.linear_algebra.specs.Field.{Gf}

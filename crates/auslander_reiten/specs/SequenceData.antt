@@ -7,6 +7,7 @@ use Rattle.representations.specs.Rep.{Rep, IsMod}
 use Rattle.representations.specs.Hom.{Hom, ◌≫◌, negative_hom}
 use Rattle.representations.specs.Module.{IsIso, IsZero}
 use Rattle.representations.specs.Sum.{sum_rep, into_first, onto_second, from_sum}
+use Rattle.representations.specs.KernelOf.{IsKernel, IsReduced}
 use Rattle.projectives.specs.Families.{projectives}
 use Rattle.projectives.specs.TwoSided.{TwoSided}
 use Rattle.projectives.specs.Injective.{injectives}
@@ -14,7 +15,7 @@ use Rattle.projectives.specs.Transposed.{nakayama}
 use Rattle.projectives.specs.Pairing.{pairing}
 use Rattle.local_modules.specs.Local.{IsLocal}
 use Rattle.auslander_reiten.specs.Presentation.{IsMinimalPresentation}
-use Rattle.auslander_reiten.specs.Translates.{IsKernel, IsReduced, IsTranslate}
+use Rattle.auslander_reiten.specs.Translates.{IsTranslate}
 
 -- A local module M with a minimal presentation P → P' → M, by d and c, where P is not zero: M is not projective. P is the sum of the projective
 -- modules at k vertices v, and P' that of those at h vertices u.

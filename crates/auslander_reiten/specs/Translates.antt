@@ -1,33 +1,16 @@
 -- The Auslander–Reiten translates and the transpose, by a minimal presentation. (Assem, Simson, Skowroński, volume 1, chapter IV, 2.)
 use Rattle.std.specs.Prelude.{ℕ}
 use Rattle.linear_algebra.specs.Field.{Gf}
-use Rattle.linear_algebra.specs.RowForm.{IsRowReduced, IsCoReduced}
-use Rattle.representations.specs.Quiver.{Quiver, opposite, BoundQuiver}
+use Rattle.representations.specs.Quiver.{opposite, BoundQuiver}
 use Rattle.representations.specs.Rep.{Rep}
 use Rattle.representations.specs.Hom.{Hom}
-use Rattle.representations.specs.Module.{IsMono, IsEpi, IsExact}
 use Rattle.representations.specs.Dual.{dual}
+use Rattle.representations.specs.KernelOf.{IsKernel, IsCokernel}
 use Rattle.projectives.specs.Families.{projectives}
 use Rattle.projectives.specs.TwoSided.{TwoSided, other, swap}
 use Rattle.projectives.specs.Injective.{injectives}
 use Rattle.projectives.specs.Transposed.{transposed, nakayama}
 use Rattle.auslander_reiten.specs.Presentation.{IsMinimalPresentation}
-
--- N is the kernel of f, by the embedding i; N is the cokernel of f, by the projection p.
-pub record IsKernel {q : Gf} {Q : Quiver} {N X Y : Rep q Q} (i : Hom N X) (f : Hom X Y) : Type 0 where
-  pub mono : IsMono i
-  pub exact : IsExact i f
-
-pub record IsCokernel {q : Gf} {Q : Quiver} {X Y N : Rep q Q} (f : Hom X Y) (p : Hom Y N) : Type 0 where
-  pub onto : IsEpi p
-  pub exact : IsExact f p
-
--- The embedding in reduced row form, the projection in reduced column form.
-abbrev pub IsReduced : {q : Gf} {Q : Quiver} {N X : Rep q Q} → Hom N X → Type 0
-IsReduced i = (w : ℕ) → (pivot : ℕ → ℕ) × IsRowReduced (i.at w) pivot
-
-abbrev pub IsCoReducedProjection : {q : Gf} {Q : Quiver} {X N : Rep q Q} → Hom X N → Type 0
-IsCoReducedProjection p = (w : ℕ) → (place : ℕ → ℕ) × IsCoReduced (p.at w) place
 
 module _ {q : Gf} {A : BoundQuiver} (T : TwoSided q A) (k : ℕ) (v : ℕ → ℕ) (h : ℕ) (u : ℕ → ℕ) (M : Rep q A.quiver) where
   -- N is the translate τM, by its embedding i into νP: the kernel of νd : νP → νP', where d and c are a minimal presentation P → P' → M.

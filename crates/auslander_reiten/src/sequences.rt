@@ -13,7 +13,9 @@ ghost use Rattle.representations.specs.HomSpace.{HomBasis};
 ghost use Rattle.projectives.specs.TwoSided.{TwoSided};
 ghost use Rattle.projectives.specs.Injective.{injectives};
 ghost use Rattle.projectives.specs.Pairing.{pairing};
+ghost use Rattle.local_modules.specs.Certificate.{LocalCertificate};
 ghost use Rattle.local_modules.specs.Local.{IsLocal};
+ghost use Rattle.local_modules.specs.MatrixAlgebra.{endomorphism_algebra};
 ghost use Rattle.auslander_reiten.specs.Presentation.{IsProjective};
 ghost use Rattle.auslander_reiten.specs.AlmostSplit.{IsAlmostSplit, AlmostSplitSequence, SequenceIsomorphism};
 ghost use Rattle.auslander_reiten.specs.SequenceData.{LocalPresentation, EndFunctional, SequenceData, CanonicalSequence};
@@ -25,8 +27,8 @@ pub fn almost_split_sequences()
 {}
 
 /// The data exist: a local module with such a presentation has a functional that is zero on the endomorphisms that are no isomorphisms and
-/// not on all; for one that is given it is enough that it is zero on rows that span the nilpotent endomorphisms, and not on some member
-/// of a basis. Each functional has its sequence, with both embeddings in reduced row form. (Chapter IV, 3.)
+/// not on all. A homomorphism M → νP' that is given is such a functional where it is zero on rows whose span has the nilpotent endomorphisms,
+/// as on the ideal of a certificate, and not on some endomorphism; then it is not zero on some member of a basis. Each functional has its sequence, with both embeddings in reduced row form. (Chapter IV, 3.)
 pub fn data_exist()
     ensures functionals { (q : Gf) (A : BoundQuiver) (T : TwoSided q A) (M : Rep q A.quiver) (D : LocalPresentation T M)
         → EndFunctional T D }
@@ -34,7 +36,11 @@ pub fn data_exist()
         (t : Hom M (injectives T D.h D.u)) (m : ℕ) (ideal : Mat q m B.size)
         → ((x : Row q B.size) → IsNilpotent (B.hom x) → IsInSpan ideal x)
         → ((i : ℕ) → i < m → pairing T D.h D.u (D.c ≫ B.hom (row i ideal)) t ≡ zeros q 1 1)
-        → (e : Row q B.size) → pairing T D.h D.u (D.c ≫ B.hom e) t ≢ zeros q 1 1 → EndFunctional T D }
+        → (e : Row q B.size) → pairing T D.h D.u (D.c ≫ B.hom e) t ≢ zeros q 1 1 → (F : EndFunctional T D) × (F.t ≡ t) }
+    ensures by_certificate { (q : Gf) (A : BoundQuiver) (T : TwoSided q A) (M : Rep q A.quiver) (D : LocalPresentation T M) (B : HomBasis M M)
+        (t : Hom M (injectives T D.h D.u)) (c : LocalCertificate (endomorphism_algebra B))
+        → ((i : ℕ) → i < c.count → pairing T D.h D.u (D.c ≫ B.hom (row i c.ideal)) t ≡ zeros q 1 1)
+        → (e : Row q B.size) → pairing T D.h D.u (D.c ≫ B.hom e) t ≢ zeros q 1 1 → (F : EndFunctional T D) × (F.t ≡ t) }
     ensures on_basis { (q : Gf) (A : BoundQuiver) (T : TwoSided q A) (M : Rep q A.quiver) (D : LocalPresentation T M) (B : HomBasis M M)
         (t : Hom M (injectives T D.h D.u)) (x : Hom M M) → pairing T D.h D.u (D.c ≫ x) t ≢ zeros q 1 1
         → (i : ℕ) × (i < B.size) × (pairing T D.h D.u (D.c ≫ B.hom (unit q B.size i)) t ≢ zeros q 1 1) }

@@ -9,6 +9,7 @@ ghost use Rattle.representations.specs.Quiver.{Quiver, opposite, BoundQuiver, op
 ghost use Rattle.representations.specs.Rep.{Rep, IsMod};
 ghost use Rattle.representations.specs.Hom.{Hom};
 ghost use Rattle.representations.specs.Dual.{dual};
+ghost use Rattle.representations.specs.KernelOf.{IsKernel, IsCokernel, IsReduced, IsCoReducedProjection};
 ghost use Rattle.projectives.specs.Families.{projectives};
 ghost use Rattle.projectives.specs.TwoSided.{TwoSided, other};
 ghost use Rattle.projectives.specs.Injective.{injectives};
@@ -16,7 +17,7 @@ ghost use Rattle.projectives.specs.Transposed.{transposed, nakayama};
 ghost use Rattle.local_modules.specs.Local.{IsLocal};
 ghost use Rattle.local_modules.specs.Isomorphic.{Isomorphic};
 ghost use Rattle.auslander_reiten.specs.Presentation.{IsMinimalPresentation, PresentationIsomorphism, IsProjective};
-ghost use Rattle.auslander_reiten.specs.Translates.{IsKernel, IsCokernel, IsReduced, IsCoReducedProjection, IsTranslate, IsTranspose, IsInverseTranslate};
+ghost use Rattle.auslander_reiten.specs.Translates.{IsTranslate, IsTranspose, IsInverseTranslate};
 ghost use Rattle.auslander_reiten.specs.SequenceData.{LocalPresentation};
 
 /// Each module has a minimal presentation by sums of projective modules, and two of them are isomorphic. A local module is projective, or it has one that begins with a
@@ -82,7 +83,7 @@ pub fn translates()
 {}
 
 /// The cokernel of the transposed of d, a module of the other side, for any d : P → P' between sums of projective modules: it exists with
-/// its projection in reduced column form, which is determined; it is a module over the opposite algebra, of the size of the cokernel at
+/// a co-reduced projection, which is determined; it is a module over the opposite algebra, of the size of the cokernel at
 /// each vertex. (Chapter IV, 2.)
 pub fn cokernels_of_transposed()
     ensures exists { (q : Gf) (A : BoundQuiver) (T : TwoSided q A) (k : ℕ) (v : ℕ → ℕ) (h : ℕ) (u : ℕ → ℕ)
@@ -102,8 +103,8 @@ pub fn cokernels_of_transposed()
 {}
 
 /// The transpose of M, a module of the other side, the cokernel of the transposed of d where d : P → P' begins a minimal presentation of
-/// M: each module has one, two of them are isomorphic, and there is one by each minimal presentation, with its projection in reduced column
-/// form; it is a module over the opposite algebra, of the size of the cokernel at each vertex. (Chapter IV, 2.)
+/// M: each module has one, two of them are isomorphic, and there is one by each minimal presentation, with a co-reduced
+/// projection; it is a module over the opposite algebra, of the size of the cokernel at each vertex. (Chapter IV, 2.)
 pub fn transposes()
     ensures exists { (q : Gf) (A : BoundQuiver) (T : TwoSided q A) (M : Rep q A.quiver) → IsMod A M
         → (k : ℕ) × (v : ℕ → ℕ) × (h : ℕ) × (u : ℕ → ℕ) × (d : Hom (projectives T.words k v) (projectives T.words h u))
@@ -131,7 +132,7 @@ pub fn transposes()
         → (w : ℕ) → rank ((transposed T k v h u d).at w) + N.dim w ≡ (projectives (other T) k v).dim w }
 {}
 
-/// The inverse translate of a module X, the transpose of its dual, exists with its projection in reduced column form, is a module of the
+/// The inverse translate of a module X, the transpose of its dual, exists with a co-reduced projection, is a module of the
 /// same side, and two of them are isomorphic. (Chapter IV, 2.)
 pub fn inverse_translates()
     ensures exists { (q : Gf) (A : BoundQuiver) (T : TwoSided q A) (X : Rep q A.quiver) → IsMod A X

@@ -16,17 +16,17 @@ use Rattle.local_modules.specs.MatrixAlgebra.{MatrixAlgebra, algebra_of}
 use Rattle.local_modules.proofs.VertexPowers.{images_of_power, power_of_images}
 
 -- what is in the span of zeros is zero
-in_zeros : {q : Gf} {k l n : ℕ} (f : Mat q k n) (y : Mat q l n) → f ≡ zeros q k n → IsInSpan f y → y ≡ zeros q l n
+pub in_zeros : {q : Gf} {k l n : ℕ} (f : Mat q k n) (y : Mat q l n) → f ≡ zeros q k n → IsInSpan f y → y ≡ zeros q l n
 in_zeros f y e s = sym s.is ∙ ap (λ z. s.by · z) e ∙ mul_zeros s.by
 
 module _ {q : Gf} {d : ℕ} (k : ℕ) (g : ℕ → Mat q d d) (size : ℕ → ℕ) (V : (i : ℕ) → Mat q (size i) d) (c : IsImageChain k g size V) where
-  images_in_chain : (i : ℕ) → IsInSpan (V i) (images k g (whole q d) i).basis
+  pub images_in_chain : (i : ℕ) → IsInSpan (V i) (images k g (whole q d) i).basis
   unfolding images
   images_in_chain zero = in_span_by_rows (V 0) _ (λ j l. c.whole (row j _))
   images_in_chain (suc i) = image_under-least k g (images k g (whole q d) i) (V (suc i)) (λ j l.
       in_span_trans (V (suc i)) (V i · g j) _ (c.has_images i j l) (in_span_image (V i) (images k g (whole q d) i).basis (g j) (images_in_chain i)))
 
-  chain_in_images : (i : ℕ) → IsInSpan (images k g (whole q d) i).basis (V i)
+  pub chain_in_images : (i : ℕ) → IsInSpan (images k g (whole q d) i).basis (V i)
   unfolding images
   chain_in_images zero = in_whole (V 0)
   chain_in_images (suc i) = c.least i (images k g (whole q d) (suc i)).basis (λ j l. image_under-in k g (images k g (whole q d) i) (V i) j l (chain_in_images i))

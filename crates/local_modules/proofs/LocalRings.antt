@@ -48,6 +48,13 @@ module _ {q : Gf} {Q : Quiver} where
   iso_power {X} x i zero = subst IsIso (sym (power-zero x)) (iso_identity X)
   iso_power x i (suc k) = subst IsIso (sym (power-suc x k)) (iso_compose x (power x k) i (iso_power x i k))
 
+  -- Where x and then f is f and then y, so it is for their powers.
+  pub power-shift : {X Y : Rep q Q} (x : Hom X X) (y : Hom Y Y) (f : Hom X Y) → x ≫ f ≡ f ≫ y → (m : ℕ) → power x m ≫ f ≡ f ≫ power y m
+  power-shift x y f e zero = ap (λ z. z ≫ f) (power-zero x) ∙ identity_compose f ∙ sym (compose_identity f) ∙ ap (λ z. f ≫ z) (sym (power-zero y))
+  power-shift x y f e (suc m) =
+      ap (λ z. z ≫ f) (power-suc x m) ∙ compose_assoc x (power x m) f ∙ ap (λ z. x ≫ z) (power-shift x y f e m)
+      ∙ sym (compose_assoc x f (power y m)) ∙ ap (λ z. z ≫ power y m) e ∙ compose_assoc f y (power y m) ∙ ap (λ z. f ≫ z) (sym (power-suc y m))
+
   -- what is zero on a module with rows has no inverse, and so neither has what is nilpotent
   pub zero_no_iso : {X Y : Rep q Q} (v : ℕ) → X.dim v ≢ 0 → IsIso (zero_hom X Y) → ⊥
   zero_no_iso {X} {Y} v d i = identity_not_zero v d (sym i.right ∙ zero_compose X i.inverse)

@@ -49,7 +49,7 @@ module _ {q : Gf} {Q : Quiver} {X : Rep q Q} (M : MatrixAlgebra X) where
       same-at (ap M.element (product_in-last A h s) ∙ M.composite_is (product_in A h s) (h s)) v ∙ compose-at (M.element (product_in A h s)) (M.element (h s)) v
       ∙ ap (λ z. z · (M.element (h s)).at v) (product_at v h s) ∙ sym (ordered_product-last (λ i. (M.element (h i)).at v) s)
 
-  at_linear : (v : ℕ) → IsLinear (λ (x : Element A). (M.element x).at v)
+  pub at_linear : (v : ℕ) → IsLinear (λ (x : Element A). (M.element x).at v)
   at_linear v = record {
     sum = λ x y. same-at (M.element_sum x y) v ∙ sum-at (M.element x) (M.element y) v;
     multiple = λ c x. same-at (M.element_multiple c x) v ∙ multiple-at c (M.element x) v;

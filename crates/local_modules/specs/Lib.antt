@@ -1,7 +1,9 @@
 pub mod Algebra
+pub mod Annihilator
 pub mod Certificate
 pub mod Counting
 pub mod Decomposition
+pub mod FamilyAlgebra
 pub mod Ideal
 pub mod ImageChain
 pub mod Isomorphic
@@ -10,3 +12,4 @@ pub mod MatrixAlgebra
 pub mod RadicalOfSum
 pub mod Residue
 pub mod Splitting
+pub mod Subalgebra

@@ -4,5 +4,6 @@
 
 pub mod algebras;
 pub mod certificates;
+pub mod larger_algebras;
 pub mod locality;
 pub mod sums;

@@ -1,4 +1,4 @@
--- By the cokernel in reduced column form.
+-- By the cokernel with its co-reduced projection.
 use Rattle.auslander_reiten.proofs.Translates.{transposed_cokernel, reduced_cokernel_once, transposed_cokernel_module, transposed_cokernel_size}
 use Rattle.auslander_reiten.proofs.translation.cokernels_of_transposed.Goals as goal
 
