@@ -4,8 +4,8 @@ use Rattle.linear_algebra.specs.FieldLaws.{neg_below}
 use Rattle.fp_linear.specs.Slices.{cell}
 use Rattle.fp_linear.proofs.Cells.{cell-is, cell_small}
 use Rattle.fp_linear.proofs.RowClearing.{IsRowCleared-none, IsRowCleared-zero, IsRowCleared-more}
-use Rattle.fp_linear.proofs.separate.clear_row.Goals.{then-factor-ne0, else-factor-ne0}
-use Rattle.fp_linear.proofs.separate.clear_row.Goals as goal
+use Rattle.fp_linear.proofs.separate.clear_within.Goals.{then-factor-ne0, else-factor-ne0}
+use Rattle.fp_linear.proofs.separate.clear_within.Goals as goal
 
 pub loop-i-init : goal.loop-i-init
 loop-i-init c = record { cleared = IsRowCleared-none _ _ _ _ _ (λ i j. cell_small c.args.field c.args.cols c.args.entries.now i j c.requires.elements); elements = c.requires.elements }
