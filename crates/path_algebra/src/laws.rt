@@ -15,6 +15,8 @@ ghost use Rattle.path_algebra.specs.Rules.{rule_element, AreReducedRules};
 ghost use Rattle.path_algebra.specs.Reduction.{AreRules, TipsApart, IsReduction, HasReduction};
 ghost use Rattle.path_algebra.specs.Derivations.{AreSteps, step_elements, element_at};
 
+use crate::Header;
+
 /// The coefficient of u·x·v at u·m·v is that of x at m; it is zero at paths of the bound's length or more, and at paths that are no such product.
 pub fn product_at()
     ensures there { (t : ℕ) (u : Path) (x : Path → ℕ) (v m : Path) → Meets u m → Meets m v → path_length (concat u (concat m v)) < t
@@ -81,3 +83,10 @@ pub fn conditions_are_met()
         → ((rule : Rule) → Contains rules rule → (p : Path) → rule_element h rule p ≡ element_at (step_elements h steps) rule.step p)
         → MeetsClauses h words steps rules }
 {}
+
+/// Headers cross threads: they may be handed to other threads and shared by them.
+pub fn headers_cross_threads(header: &Header) {
+    crosses_threads(header);
+}
+
+fn crosses_threads<T: Send + Sync>(_value: &T) {}
