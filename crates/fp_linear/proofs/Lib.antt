@@ -4,7 +4,10 @@ pub mod Elimination
 pub mod Fields
 pub mod InvertOf
 pub mod KernelOf
+pub mod LentProducts
+pub mod LentRows
 pub mod Matrices
+pub mod Meeting
 pub mod MultipleTables
 pub mod Products
 pub mod RankOf

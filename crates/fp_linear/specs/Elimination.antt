@@ -1,7 +1,9 @@
 -- The state of elimination: a matrix, given by its entries, of which the first columns are done.
-use Rattle.std.specs.Prelude.{ℕ, ◌<◌, ◌≤◌, ◌≡◌, ◌≢◌}
+use Rattle.std.specs.Prelude.{ℕ, ◌<◌, ◌≤◌, ◌≡◌, ◌≢◌, List, slice_index}
 use Rattle.linear_algebra.specs.Field.{Gf, add, mul, neg, sub}
 use Rattle.linear_algebra.specs.Sums.{sum_to}
+use Rattle.linear_algebra.specs.Rows.{entry}
+use Rattle.linear_algebra.specs.Reduced.{pivot}
 
 -- Of a matrix with m rows and entries e the first c columns are in reduced row form: its first r rows have their leading ones at the places
 -- p 0 < p 1 < .. < p (r − 1) of these columns, the other entries of those columns are zero, and so are the first c entries of the other rows.
@@ -53,3 +55,11 @@ pub record IsFunctionalUpTo (q : Gf) (n c k : ℕ) (e : ℕ → ℕ → ℕ) (p 
   pub at_column : f c ≡ 1
   pub at_pivot : (i : ℕ) → i < k → f (p i) ≡ neg q (e i c)
   pub elsewhere : (j : ℕ) → j < n → j ≢ c → ((i : ℕ) → i < k → p i ≢ j) → f j ≡ 0
+
+-- From the row x the first k rows are taken, each as often as the entry of x at its pivot says.
+pub record IsClearedOf (q : Gf) (n k : ℕ) (rows : List (List ℕ)) (x y : List ℕ) : Type 0 where
+  pub at : (j : ℕ) → j < n → slice_index y j ≡ sub q (slice_index x j) (sum_to q k (λ i. mul q (slice_index x (pivot rows i)) (entry rows i j)))
+
+-- The first k entries of x, times the first k rows.
+pub record IsProductOf (q : Gf) (n k : ℕ) (x : List ℕ) (rows : List (List ℕ)) (y : List ℕ) : Type 0 where
+  pub at : (j : ℕ) → j < n → slice_index y j ≡ sum_to q k (λ i. mul q (slice_index x i) (entry rows i j))

@@ -3,6 +3,7 @@
 
 mod add;
 mod blocks;
+mod clearing;
 mod echelon;
 mod field;
 pub mod laws;
@@ -12,6 +13,8 @@ mod scratch;
 mod separate;
 mod tables;
 
+pub use add::add_multiple;
+pub use clearing::{clear_row, multiply_row};
 pub use echelon::echelon_rows;
 pub use field::Field;
 pub use matrix::{Matrix, echelon_in_place};

@@ -7,7 +7,7 @@ ghost use Rattle.fp_linear.specs.Slices.{AreElements, cell};
 ghost use Rattle.fp_linear.specs.Elimination.{IsRowCleared, IsFunctionalUpTo};
 ghost use Rattle.fp_linear.specs.Matrix.{PlainMatrix};
 
-use crate::add::add_multiple;
+use crate::add::add_within;
 use crate::echelon::echelon_rows;
 use crate::field::Field;
 use crate::matrix::Matrix;
@@ -30,7 +30,7 @@ pub fn separating(alloc: Global, rows: &Matrix, x: &[u8]) -> Result<Option<Vec<u
     let mut pivots = vec![in alloc; 0u32; count]?;
     let rank = echelon_rows(field, row_count, col_count, &mut entries, &mut pivots) as usize;
     entries.extend_from_slice(x)?;
-    clear_row(field, count, cols, rank, &pivots, &mut entries);
+    clear_within(field, count, cols, rank, &pivots, &mut entries);
     match first_nonzero(&entries, count * cols, cols) {
         None => Ok(None),
         Some(column) => {
@@ -50,7 +50,14 @@ pub fn separating(alloc: Global, rows: &Matrix, x: &[u8]) -> Result<Option<Vec<u
 }
 
 // Takes multiples of the first `rank` rows, which are in reduced row form, from row `row`, so that its entries at their pivots vanish.
-fn clear_row(field: Field, row: usize, cols: usize, rank: usize, pivots: &[u32], entries: &mut [u8])
+fn clear_within(
+    field: Field,
+    row: usize,
+    cols: usize,
+    rank: usize,
+    pivots: &[u32],
+    entries: &mut [u8],
+)
     requires shape { (row + 1) * cols ≤ length entries.old }
     requires elements { AreElements field entries.old }
     requires fits { rank ≤ row }
@@ -63,7 +70,7 @@ fn clear_row(field: Field, row: usize, cols: usize, rank: usize, pivots: &[u32],
     for i in 0..rank {
         let factor = field.neg(entries[row * cols + pivots[i] as usize]);
         if factor != 0 {
-            add_multiple(field, factor, i * cols, row * cols, cols, entries);
+            add_within(field, factor, i * cols, row * cols, cols, entries);
         }
     }
 }

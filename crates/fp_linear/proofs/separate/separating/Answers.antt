@@ -8,8 +8,8 @@ use Rattle.fp_linear.proofs.Cells.{cell-is}
 use Rattle.fp_linear.proofs.SeparateOf.{IsCleared, pivot-inside, pivot-different, cell-at_pivot, in_span-of, pivot-apart, separated-of}
 use Rattle.fp_linear.proofs.separate.separating.Goals as goal
 
-pub clear_row-requires-clause-inside : goal.clear_row-requires-clause-inside
-clear_row-requires-clause-inside c = λ i l.
+pub clear_within-requires-clause-inside : goal.clear_within-requires-clause-inside
+clear_within-requires-clause-inside c = λ i l.
     let q = c.field-field.result in
     let m = c.rows-row_count.result in
     let n = c.cols-col_count.result in
@@ -26,8 +26,8 @@ clear_row-requires-clause-inside c = λ i l.
     let pivots : c.deref.result.now ≡ ps = c.deref.ensures.value ∙ take_at ps _ _ (omega (arith, c.deref_mut-2.ensures.len, c.echelon_rows-rank.auto.pivots)) in
     rw pivots (pivot-inside q n start (rows_of m n reduced) ps rank i c.echelon_rows-rank.ensures.form l)
 
-pub clear_row-requires-clause-cleared : goal.clear_row-requires-clause-cleared
-clear_row-requires-clause-cleared c = λ i k l b d.
+pub clear_within-requires-clause-cleared : goal.clear_within-requires-clause-cleared
+clear_within-requires-clause-cleared c = λ i k l b d.
     let q = c.field-field.result in
     let m = c.rows-row_count.result in
     let n = c.cols-col_count.result in
@@ -60,9 +60,9 @@ returns-in-None c =
     let count : length reduced ≡ m * n = c.echelon_rows-rank.auto.entries ∙ ap length c.deref_mut.ensures.value ∙ c.in_ok-entries.ensures.count ∙ ap (λ (a : ℕ). a * c.args.rows.now.col_count) (sym re) ∙ ap (λ (a : ℕ). m * a) (sym ce) in
     let behind : all ≡ reduced ++ c.args.x.now = c.deref_mut-3.ensures.value ∙ c.in_ok-extend_from_slice.ensures.items ∙ ap (λ (a : List ℕ). a ++ c.args.x.now) (take_at reduced _ _ (omega (arith, c.deref_mut.ensures.len, c.echelon_rows-rank.auto.entries))) in
     let pivots : c.deref.result.now ≡ ps = c.deref.ensures.value ∙ take_at ps _ _ (omega (arith, c.deref_mut-2.ensures.len, c.echelon_rows-rank.auto.pivots)) in
-    let cleared = c.clear_row.new.entries in
+    let cleared = c.clear_within.new.entries in
     let starts : start ≡ c.args.rows.now.rows = ap (rows_of m n) c.deref_mut.ensures.value ∙ ap (λ (a : ℕ). rows_of a n c.in_ok-entries.entries.items) re ∙ ap (λ (a : ℕ). rows_of c.args.rows.now.row_count a c.in_ok-entries.entries.items) ce ∙ c.in_ok-entries.ensures.rows in
-    let steps : IsRowCleared q n m rank (λ i. get_or ps i 0) (cell n all) (cell n cleared) = rw pivots at c.clear_row.ensures.cleared in
+    let steps : IsRowCleared q n m rank (λ i. get_or ps i 0) (cell n all) (cell n cleared) = rw pivots at c.clear_within.ensures.cleared in
     let facts : IsCleared q m n rank start reduced ps c.args.x.now all cleared = record {
       count = count;
       small = c.echelon_rows-rank.ensures.elements;
@@ -71,7 +71,7 @@ returns-in-None c =
       behind = behind;
       steps = steps;
     } in
-    let entries : c.deref-2.result.now ≡ cleared = c.deref-2.ensures.value ∙ take_at cleared _ _ (omega (arith, c.deref_mut-3.ensures.len, c.clear_row.auto.entries)) in
+    let entries : c.deref-2.result.now ≡ cleared = c.deref-2.ensures.value ∙ take_at cleared _ _ (omega (arith, c.deref_mut-3.ensures.len, c.clear_within.auto.entries)) in
     let span : IsInSpan q n start c.args.x.now = in_span-of q m n rank start reduced ps c.args.x.now all cleared facts (λ j l. cell-is n cleared m j ∙ ap (λ (s : List ℕ). get_or s (m * n + j) 0) (sym entries) ∙ c.in-None.ensures j l) in
     rw (starts, fe, ce) at span
 
@@ -91,9 +91,9 @@ write_functional-requires-clause-inside c = λ i l.
     let count : length reduced ≡ m * n = c.echelon_rows-rank.auto.entries ∙ ap length c.deref_mut.ensures.value ∙ c.in_ok-entries.ensures.count ∙ ap (λ (a : ℕ). a * c.args.rows.now.col_count) (sym re) ∙ ap (λ (a : ℕ). m * a) (sym ce) in
     let behind : all ≡ reduced ++ c.args.x.now = c.deref_mut-3.ensures.value ∙ c.in_ok-extend_from_slice.ensures.items ∙ ap (λ (a : List ℕ). a ++ c.args.x.now) (take_at reduced _ _ (omega (arith, c.deref_mut.ensures.len, c.echelon_rows-rank.auto.entries))) in
     let pivots : c.deref.result.now ≡ ps = c.deref.ensures.value ∙ take_at ps _ _ (omega (arith, c.deref_mut-2.ensures.len, c.echelon_rows-rank.auto.pivots)) in
-    let cleared = c.clear_row.new.entries in
+    let cleared = c.clear_within.new.entries in
     let starts : start ≡ c.args.rows.now.rows = ap (rows_of m n) c.deref_mut.ensures.value ∙ ap (λ (a : ℕ). rows_of a n c.in_ok-entries.entries.items) re ∙ ap (λ (a : ℕ). rows_of c.args.rows.now.row_count a c.in_ok-entries.entries.items) ce ∙ c.in_ok-entries.ensures.rows in
-    let steps : IsRowCleared q n m rank (λ i. get_or ps i 0) (cell n all) (cell n cleared) = rw pivots at c.clear_row.ensures.cleared in
+    let steps : IsRowCleared q n m rank (λ i. get_or ps i 0) (cell n all) (cell n cleared) = rw pivots at c.clear_within.ensures.cleared in
     let facts : IsCleared q m n rank start reduced ps c.args.x.now all cleared = record {
       count = count;
       small = c.echelon_rows-rank.ensures.elements;
@@ -102,7 +102,7 @@ write_functional-requires-clause-inside c = λ i l.
       behind = behind;
       steps = steps;
     } in
-    let entries : c.deref-2.result.now ≡ cleared = c.deref-2.ensures.value ∙ take_at cleared _ _ (omega (arith, c.deref_mut-3.ensures.len, c.clear_row.auto.entries)) in
+    let entries : c.deref-2.result.now ≡ cleared = c.deref-2.ensures.value ∙ take_at cleared _ _ (omega (arith, c.deref_mut-3.ensures.len, c.clear_within.auto.entries)) in
     let columns : c.deref-in-Some-2.result.now ≡ ps = c.deref-in-Some-2.ensures.value ∙ take_at ps _ _ (omega (arith, c.deref_mut-2.ensures.len, c.echelon_rows-rank.auto.pivots)) in
     let column = c.in-Some.column in
     let nonzero : cell n cleared m column ≢ 0 = λ z. c.in-Some.ensures.1 (ap (λ (s : List ℕ). get_or s (m * n + column) 0) entries ∙ sym (cell-is n cleared m column) ∙ z) in
@@ -124,9 +124,9 @@ write_functional-requires-clause-apart c = λ i l.
     let count : length reduced ≡ m * n = c.echelon_rows-rank.auto.entries ∙ ap length c.deref_mut.ensures.value ∙ c.in_ok-entries.ensures.count ∙ ap (λ (a : ℕ). a * c.args.rows.now.col_count) (sym re) ∙ ap (λ (a : ℕ). m * a) (sym ce) in
     let behind : all ≡ reduced ++ c.args.x.now = c.deref_mut-3.ensures.value ∙ c.in_ok-extend_from_slice.ensures.items ∙ ap (λ (a : List ℕ). a ++ c.args.x.now) (take_at reduced _ _ (omega (arith, c.deref_mut.ensures.len, c.echelon_rows-rank.auto.entries))) in
     let pivots : c.deref.result.now ≡ ps = c.deref.ensures.value ∙ take_at ps _ _ (omega (arith, c.deref_mut-2.ensures.len, c.echelon_rows-rank.auto.pivots)) in
-    let cleared = c.clear_row.new.entries in
+    let cleared = c.clear_within.new.entries in
     let starts : start ≡ c.args.rows.now.rows = ap (rows_of m n) c.deref_mut.ensures.value ∙ ap (λ (a : ℕ). rows_of a n c.in_ok-entries.entries.items) re ∙ ap (λ (a : ℕ). rows_of c.args.rows.now.row_count a c.in_ok-entries.entries.items) ce ∙ c.in_ok-entries.ensures.rows in
-    let steps : IsRowCleared q n m rank (λ i. get_or ps i 0) (cell n all) (cell n cleared) = rw pivots at c.clear_row.ensures.cleared in
+    let steps : IsRowCleared q n m rank (λ i. get_or ps i 0) (cell n all) (cell n cleared) = rw pivots at c.clear_within.ensures.cleared in
     let facts : IsCleared q m n rank start reduced ps c.args.x.now all cleared = record {
       count = count;
       small = c.echelon_rows-rank.ensures.elements;
@@ -135,7 +135,7 @@ write_functional-requires-clause-apart c = λ i l.
       behind = behind;
       steps = steps;
     } in
-    let entries : c.deref-2.result.now ≡ cleared = c.deref-2.ensures.value ∙ take_at cleared _ _ (omega (arith, c.deref_mut-3.ensures.len, c.clear_row.auto.entries)) in
+    let entries : c.deref-2.result.now ≡ cleared = c.deref-2.ensures.value ∙ take_at cleared _ _ (omega (arith, c.deref_mut-3.ensures.len, c.clear_within.auto.entries)) in
     let columns : c.deref-in-Some-2.result.now ≡ ps = c.deref-in-Some-2.ensures.value ∙ take_at ps _ _ (omega (arith, c.deref_mut-2.ensures.len, c.echelon_rows-rank.auto.pivots)) in
     let column = c.in-Some.column in
     let nonzero : cell n cleared m column ≢ 0 = λ z. c.in-Some.ensures.1 (ap (λ (s : List ℕ). get_or s (m * n + column) 0) entries ∙ sym (cell-is n cleared m column) ∙ z) in
@@ -157,9 +157,9 @@ write_functional-requires-clause-different c = λ i k l b d.
     let count : length reduced ≡ m * n = c.echelon_rows-rank.auto.entries ∙ ap length c.deref_mut.ensures.value ∙ c.in_ok-entries.ensures.count ∙ ap (λ (a : ℕ). a * c.args.rows.now.col_count) (sym re) ∙ ap (λ (a : ℕ). m * a) (sym ce) in
     let behind : all ≡ reduced ++ c.args.x.now = c.deref_mut-3.ensures.value ∙ c.in_ok-extend_from_slice.ensures.items ∙ ap (λ (a : List ℕ). a ++ c.args.x.now) (take_at reduced _ _ (omega (arith, c.deref_mut.ensures.len, c.echelon_rows-rank.auto.entries))) in
     let pivots : c.deref.result.now ≡ ps = c.deref.ensures.value ∙ take_at ps _ _ (omega (arith, c.deref_mut-2.ensures.len, c.echelon_rows-rank.auto.pivots)) in
-    let cleared = c.clear_row.new.entries in
+    let cleared = c.clear_within.new.entries in
     let starts : start ≡ c.args.rows.now.rows = ap (rows_of m n) c.deref_mut.ensures.value ∙ ap (λ (a : ℕ). rows_of a n c.in_ok-entries.entries.items) re ∙ ap (λ (a : ℕ). rows_of c.args.rows.now.row_count a c.in_ok-entries.entries.items) ce ∙ c.in_ok-entries.ensures.rows in
-    let steps : IsRowCleared q n m rank (λ i. get_or ps i 0) (cell n all) (cell n cleared) = rw pivots at c.clear_row.ensures.cleared in
+    let steps : IsRowCleared q n m rank (λ i. get_or ps i 0) (cell n all) (cell n cleared) = rw pivots at c.clear_within.ensures.cleared in
     let facts : IsCleared q m n rank start reduced ps c.args.x.now all cleared = record {
       count = count;
       small = c.echelon_rows-rank.ensures.elements;
@@ -168,7 +168,7 @@ write_functional-requires-clause-different c = λ i k l b d.
       behind = behind;
       steps = steps;
     } in
-    let entries : c.deref-2.result.now ≡ cleared = c.deref-2.ensures.value ∙ take_at cleared _ _ (omega (arith, c.deref_mut-3.ensures.len, c.clear_row.auto.entries)) in
+    let entries : c.deref-2.result.now ≡ cleared = c.deref-2.ensures.value ∙ take_at cleared _ _ (omega (arith, c.deref_mut-3.ensures.len, c.clear_within.auto.entries)) in
     let columns : c.deref-in-Some-2.result.now ≡ ps = c.deref-in-Some-2.ensures.value ∙ take_at ps _ _ (omega (arith, c.deref_mut-2.ensures.len, c.echelon_rows-rank.auto.pivots)) in
     let column = c.in-Some.column in
     let nonzero : cell n cleared m column ≢ 0 = λ z. c.in-Some.ensures.1 (ap (λ (s : List ℕ). get_or s (m * n + column) 0) entries ∙ sym (cell-is n cleared m column) ∙ z) in
@@ -190,9 +190,9 @@ returns c =
     let count : length reduced ≡ m * n = c.echelon_rows-rank.auto.entries ∙ ap length c.deref_mut.ensures.value ∙ c.in_ok-entries.ensures.count ∙ ap (λ (a : ℕ). a * c.args.rows.now.col_count) (sym re) ∙ ap (λ (a : ℕ). m * a) (sym ce) in
     let behind : all ≡ reduced ++ c.args.x.now = c.deref_mut-3.ensures.value ∙ c.in_ok-extend_from_slice.ensures.items ∙ ap (λ (a : List ℕ). a ++ c.args.x.now) (take_at reduced _ _ (omega (arith, c.deref_mut.ensures.len, c.echelon_rows-rank.auto.entries))) in
     let pivots : c.deref.result.now ≡ ps = c.deref.ensures.value ∙ take_at ps _ _ (omega (arith, c.deref_mut-2.ensures.len, c.echelon_rows-rank.auto.pivots)) in
-    let cleared = c.clear_row.new.entries in
+    let cleared = c.clear_within.new.entries in
     let starts : start ≡ c.args.rows.now.rows = ap (rows_of m n) c.deref_mut.ensures.value ∙ ap (λ (a : ℕ). rows_of a n c.in_ok-entries.entries.items) re ∙ ap (λ (a : ℕ). rows_of c.args.rows.now.row_count a c.in_ok-entries.entries.items) ce ∙ c.in_ok-entries.ensures.rows in
-    let steps : IsRowCleared q n m rank (λ i. get_or ps i 0) (cell n all) (cell n cleared) = rw pivots at c.clear_row.ensures.cleared in
+    let steps : IsRowCleared q n m rank (λ i. get_or ps i 0) (cell n all) (cell n cleared) = rw pivots at c.clear_within.ensures.cleared in
     let facts : IsCleared q m n rank start reduced ps c.args.x.now all cleared = record {
       count = count;
       small = c.echelon_rows-rank.ensures.elements;
@@ -201,11 +201,11 @@ returns c =
       behind = behind;
       steps = steps;
     } in
-    let entries : c.deref-2.result.now ≡ cleared = c.deref-2.ensures.value ∙ take_at cleared _ _ (omega (arith, c.deref_mut-3.ensures.len, c.clear_row.auto.entries)) in
+    let entries : c.deref-2.result.now ≡ cleared = c.deref-2.ensures.value ∙ take_at cleared _ _ (omega (arith, c.deref_mut-3.ensures.len, c.clear_within.auto.entries)) in
     let columns : c.deref-in-Some-2.result.now ≡ ps = c.deref-in-Some-2.ensures.value ∙ take_at ps _ _ (omega (arith, c.deref_mut-2.ensures.len, c.echelon_rows-rank.auto.pivots)) in
     let column = c.in-Some.column in
     let nonzero : cell n cleared m column ≢ 0 = λ z. c.in-Some.ensures.1 (ap (λ (s : List ℕ). get_or s (m * n + column) 0) entries ∙ sym (cell-is n cleared m column) ∙ z) in
-    let here : c.deref-in-Some.result.now ≡ cleared = c.deref-in-Some.ensures.value ∙ take_at cleared _ _ (omega (arith, c.deref_mut-3.ensures.len, c.clear_row.auto.entries)) in
+    let here : c.deref-in-Some.result.now ≡ cleared = c.deref-in-Some.ensures.value ∙ take_at cleared _ _ (omega (arith, c.deref_mut-3.ensures.len, c.clear_within.auto.entries)) in
     let y = c.write_functional.new.functional in
     let size : length y ≡ n = c.write_functional.auto.functional ∙ ap length c.deref_mut-in-Some.ensures.value ∙ ap length (c.in_ok-functional-in-Some.ensures.items_if_clones_equal (λ y h. h)) ∙ length-replicate n 0 in
     let functional : IsFunctionalUpTo q n column rank (cell n cleared) (λ i. get_or ps i 0) (λ j. get_or y j 0) = rw (here, columns) at c.write_functional.ensures in

@@ -1,5 +1,5 @@
 use Rattle.std.proofs.Common.{ℕ, ◌-◌, ◌≡◌, ◌<◌, ◌≤◌, length, slice_index_or}
-use Rattle.word_products.proofs.multiplying.find.Given as goal
+use Rattle.path_algebra.proofs.path_places.path_place.Given as goal
 
 abbrev pub invariant-loop-low : goal.invariant-loop-low
 invariant-loop-low l = record {

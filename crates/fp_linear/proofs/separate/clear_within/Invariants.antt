@@ -1,7 +1,7 @@
 use Rattle.std.proofs.Common.{ℕ, get_or}
 use Rattle.fp_linear.specs.Slices.{AreElements, cell}
 use Rattle.fp_linear.specs.Elimination.{IsRowCleared}
-use Rattle.fp_linear.proofs.separate.clear_row.Given as goal
+use Rattle.fp_linear.proofs.separate.clear_within.Given as goal
 
 abbrev pub invariant-loop-i : goal.invariant-loop-i
 invariant-loop-i l = record {
