@@ -1,12 +1,12 @@
 -- Clearing a row by reduced rows, and multiplying a row by a matrix, row by row.
 use Rattle.std.proofs.Common.{ℕ, ◌<◌, ◌≤◌, ◌≡◌, ◌+◌, ◌*◌, ◌-◌, List, [], length, get_or, take, drop, sym, ap, ap₂, ◌∙◌, arith, add-one, mul-le-mul_right}
-use Rattle.std.proofs.lemmas.List.{ext_get_or, get_or-take, get_or-drop, length-take-le, length-drop, get_or-map}
+use Rattle.std.proofs.lemmas.List.{ext_get_or, get_or-take, get_or-drop, get_or-map}
 use Rattle.linear_algebra.specs.Field.{Gf, add, mul, neg, sub}
 use Rattle.linear_algebra.specs.FieldLaws.{mul_zero, sub_def, neg-add, neg_mul, add_assoc, neg_zero, add_zero}
 use Rattle.linear_algebra.specs.Sums.{sum_to, sum-none, sum-suc, sum-same, sum-zeros}
-use Rattle.linear_algebra.specs.Rows.{list_of, entry, rows_of, times}
+use Rattle.linear_algebra.specs.Rows.{entry, rows_of, times}
 use Rattle.linear_algebra.specs.Reduced.{IsReduced, leading, pivot, pivots_of, at_pivots, remainder}
-use Rattle.linear_algebra.proofs.Rows.{length-list_of, get_or-list_of, get_or-times, length-times, entry-rows_of, length-rows_of}
+use Rattle.linear_algebra.proofs.Rows.{length-list_of, get_or-list_of, get_or-times, length-times, entry-rows_of}
 use Rattle.linear_algebra.proofs.ReducedSpans.{get_or-remainder}
 use Rattle.fp_linear.specs.Slices.{AreElements, plus_multiple}
 use Rattle.fp_linear.specs.Elimination.{IsClearedOf, IsProductOf}

@@ -2,7 +2,7 @@
 use Rattle.std.proofs.Common.{ℕ, ◌<◌, ◌≤◌, ◌≡◌, inl, inr, ◌+◌, ◌-◌, List, ◌++◌, length, get_or, take, drop, sym, ap, ap₂, ◌∙◌, arith, length-append}
 use Rattle.std.proofs.lemmas.List.{get_or-take, get_or-drop, get_or-append-add, get_or_append_left, get_or-append_right, get_or_past, length-take-le, length-drop}
 use Rattle.std.proofs.lemmas.Bool.{cases_lt}
-use Rattle.linear_algebra.specs.Field.{Gf, order, add, mul}
+use Rattle.linear_algebra.specs.Field.{Gf, add, mul}
 use Rattle.linear_algebra.specs.FieldLaws.{order-pos}
 use Rattle.fp_linear.specs.Slices.{AreElements, IsWritten, AreApart, plus_multiple, added}
 use Rattle.fp_linear.proofs.Slices.{length-plus, plus-at}

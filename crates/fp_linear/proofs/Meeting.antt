@@ -17,7 +17,7 @@ use Rattle.linear_algebra.proofs.PartsLaws.{made-at}
 use Rattle.linear_algebra.proofs.Rows.{entry-rows_of, get_or-list_of}
 use Rattle.linear_algebra.proofs.Reduced.{IsGrid-take, entry-take}
 use Rattle.linear_algebra.proofs.Typed.{as_mat-entry, same_span_forth, same_span_back}
-use Rattle.linear_algebra.proofs.Dimension.{rank, rank_le_columns}
+use Rattle.linear_algebra.proofs.Dimension.{rank_le_columns}
 use Rattle.linear_algebra.proofs.RankExists.{rank_factorisation}
 use Rattle.fp_linear.specs.Slices.{AreElements}
 use Rattle.fp_linear.proofs.Cells.{IsGrid-rows_of}

@@ -1,4 +1,4 @@
-use Rattle.std.proofs.Common.{◌≡◌, ◌+◌, sym, ap, ◌∙◌, arith, get_or}
+use Rattle.std.proofs.Common.{◌≡◌, sym, ap, ◌∙◌, arith, get_or}
 use Rattle.linear_algebra.specs.Field.{add, mul}
 use Rattle.linear_algebra.specs.FieldLaws.{one_mul}
 use Rattle.fp_linear.proofs.Fields.{xor_adds, two_is_binary}

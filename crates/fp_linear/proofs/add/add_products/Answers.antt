@@ -1,4 +1,4 @@
-use Rattle.std.proofs.Common.{◌≡◌, ◌+◌, ap, ◌∙◌, arith, get_or, bit_xor}
+use Rattle.std.proofs.Common.{ap, ◌∙◌, arith, get_or, bit_xor}
 use Rattle.linear_algebra.specs.Field.{mul}
 use Rattle.linear_algebra.specs.FieldLaws.{mul_below}
 use Rattle.fp_linear.proofs.Fields.{xor_adds}

@@ -1,4 +1,4 @@
-use Rattle.std.proofs.Common.{ℕ, ◌≡◌, ◌+◌, ◌*◌, ◌-◌, ap, ◌∙◌, arith, get_or}
+use Rattle.std.proofs.Common.{ℕ, ◌+◌, ◌*◌, ◌-◌, ap, ◌∙◌, arith, get_or}
 use Rattle.std.proofs.lemmas.Nat.{mul-add-lt}
 use Rattle.linear_algebra.specs.Field.{order, add, mul}
 use Rattle.fp_linear.proofs.MultipleTables.{letter_back}

@@ -1,7 +1,6 @@
-use Rattle.std.proofs.Common.{ℕ, ◌≡◌, ◌≤◌, ◌+◌, ◌-◌, length, take, drop, sym, ◌∙◌, arith}
+use Rattle.std.proofs.Common.{◌+◌, ◌-◌, drop, ◌∙◌, arith}
 use Rattle.std.proofs.lemmas.List.{get_or-take, get_or-drop, length-take-le, length-drop}
 use Rattle.linear_algebra.specs.FieldLaws.{add_below}
-use Rattle.fp_linear.specs.Slices.{IsWritten, added}
 use Rattle.fp_linear.proofs.Slices.{AreElements-written}
 use Rattle.fp_linear.proofs.LentRows.{apart_below, apart_above, AreElements-front, AreElements-back, AreElements-take, AreElements-drop, IsWritten-behind, IsWritten-before}
 use Rattle.fp_linear.proofs.add.add_within.Goals as goal

@@ -1,4 +1,4 @@
-use Rattle.std.proofs.Common.{ℕ, inl, inr, sym, ap, ◌∙◌, arith, get_or, set, length, get_or-set_same, get_or-set_other}
+use Rattle.std.proofs.Common.{inl, inr, ap, ◌∙◌, arith, get_or, set, length, get_or-set_same, get_or-set_other}
 use Rattle.std.proofs.lemmas.List.{get_or_past}
 use Rattle.std.proofs.lemmas.Bool.{cases_lt, cases_eq}
 use Rattle.fp_linear.proofs.clearing.make_zero.Goals as goal

@@ -1,10 +1,9 @@
-use Rattle.std.proofs.Common.{ℕ, ◌≡◌, ◌<◌, ◌≤◌, ◌+◌, ◌*◌, ◌-◌, length, get_or, take, drop, sym, ap, ◌∙◌, arith, subst, refl}
-use Rattle.std.proofs.lemmas.List.{length-drop, length-replicate, get_or-replicate}
+use Rattle.std.proofs.Common.{ℕ, ◌≡◌, ◌*◌, length, sym, ap, ◌∙◌, arith, subst, refl}
+use Rattle.std.proofs.lemmas.List.{length-drop}
 use Rattle.linear_algebra.specs.FieldLaws.{order-pos}
 use Rattle.linear_algebra.specs.Rows.{rows_of, times}
 use Rattle.linear_algebra.proofs.Rows.{length-rows_of}
 use Rattle.fp_linear.specs.Elimination.{IsProductOf}
-use Rattle.fp_linear.proofs.Slices.{AreElements-zeros}
 use Rattle.fp_linear.proofs.LentRows.{AreElements-take, AreElements-drop}
 use Rattle.fp_linear.proofs.LentProducts.{row_fits, row_part, IsProductOf-none, IsProductOf-more, IsProductOf-times}
 use Rattle.fp_linear.proofs.clearing.multiply_row.Goals as goal
