@@ -1,0 +1,3 @@
+pub mod Algebras
+pub mod Readings
+pub mod Shapes
