@@ -1,0 +1,4 @@
+pub mod BlockSums
+pub mod Duals
+pub mod SimpleModules
+pub mod Written

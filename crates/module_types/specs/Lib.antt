@@ -1,3 +1,5 @@
 pub mod Algebras
 pub mod Readings
 pub mod Shapes
+pub mod SimpleModules
+pub mod Written
