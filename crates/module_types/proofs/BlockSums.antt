@@ -1,11 +1,11 @@
 -- The block sum is read as the direct sum, it has the shape of a module, and it is a module where its summands are.
-use Rattle.std.proofs.Common.{ℕ, zero, suc, ◌≡◌, ◌<◌, ◌≤◌, ◌+◌, List, [], ◌∷◌, ◌++◌, length, get_or, slice_index, refl, sym, ap, ap₂, ◌∙◌, subst, arith, inl, inr, length-append}
-use Rattle.std.proofs.lemmas.Bool.{cases_eq}
+use Rattle.std.proofs.Common.{ℕ, zero, suc, ◌≡◌, ◌<◌, ◌≤◌, ◌+◌, List, [], ◌∷◌, ◌++◌, length, slice_index, refl, sym, ap, ap₂, ◌∙◌, subst, arith, length-append}
 use Rattle.std.proofs.Math.Seq.{get_or-append_seam}
 use Rattle.std.proofs.Math.ListN.{get_or-append}
 use Rattle.linear_algebra.specs.Field.{Gf}
 use Rattle.linear_algebra.specs.Matrix.{join}
 use Rattle.linear_algebra.specs.BlockFamilies.{total}
+use Rattle.linear_algebra.proofs.Rows.{get_or-list_of}
 use Rattle.linear_algebra.proofs.DirectSum.{diagonal-upper, diagonal-lower}
 use Rattle.representations.specs.Quiver.{Quiver, BoundQuiver}
 use Rattle.representations.specs.Rep.{Rep, IsMod}
@@ -60,6 +60,12 @@ module _ (q : Gf) (Q : Quiver) where
       let g = dimension-read q Q b t in
       omega (arith, e, f, g, h))
 
+  pub block_sum-dims : (a b : Module) (v : ℕ) → v < Q.vertices → slice_index (block_sum q Q a b).dims v ≡ slice_index a.dims v + slice_index b.dims v
+  unfolding block_sum
+  block_sum-dims a b v l =
+      get_or-list_of Q.vertices (λ v. dim_at Q a.dims v + dim_at Q b.dims v) v 0 l
+      ∙ ap₂ (λ m n. m + n) (dim_at-below Q a.dims v l) (dim_at-below Q b.dims v l)
+
   -- the entries: in the rows of a those of a, and then zeros; in the rows of b zeros, and then those of b
   pub block_sum-upper : (a b : Module) (r i j : ℕ) → i < dim_at Q a.dims (Q.source r)
       → ((rep_of q Q (block_sum q Q a b)).mat r).at i j ≡ join (dim_at Q a.dims (Q.target r)) (((rep_of q Q a).mat r).at i) (λ t. 0) j
@@ -89,10 +95,10 @@ module _ (q : Gf) (Q : Quiver) where
       (sum_family-same (length parts) _ _ (λ i l. ap (rep_of q Q) (get_or-append parts (m ∷ []) (written side (zero_rep q Q)) i l)) ∙ sym (rep_of-written side (sum_family (length parts) (part_at q Q side parts))))
       (ap (rep_of q Q) (get_or-append_seam parts m [] (written side (zero_rep q Q))))
 
-  pub block_sum_of-shape : (side : Side) (parts : List Module) → ((i : ℕ) (m : Module) → i < length parts → IsModule q Q (get_or parts i m))
-      → total (length parts) (λ i. total Q.vertices (part_at q Q side parts i).dim) ≤ 256 → IsModule q Q (block_sum_of q Q side parts)
+  pub block_sum_of-shape : (side : Side) (parts : List Module) → total (length parts) (λ i. total Q.vertices (part_at q Q side parts i).dim) ≤ 256
+      → IsModule q Q (block_sum_of q Q side parts)
   unfolding block_sum_of
-  block_sum_of-shape side parts s h = written-shape side (sum_family (length parts) (part_at q Q side parts)) (
+  block_sum_of-shape side parts h = written-shape side (sum_family (length parts) (part_at q Q side parts)) (
       let e = total-same Q.vertices _ _ (λ v l. sum_family-dim (length parts) (part_at q Q side parts) v) in
       let f = total-swap (length parts) Q.vertices (λ i v. (part_at q Q side parts i).dim v) in
       omega (arith, e, f, h))

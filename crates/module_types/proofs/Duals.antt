@@ -3,7 +3,6 @@
 use Rattle.std.proofs.Common.{ℕ, ◌≡◌, ◌≤◌, refl, sym, ap, ◌∙◌, subst}
 use Rattle.linear_algebra.specs.Field.{Gf}
 use Rattle.linear_algebra.specs.Matrix.{transpose}
-use Rattle.linear_algebra.specs.BlockFamilies.{total}
 use Rattle.path_algebra.specs.declared.Header.{Header}
 use Rattle.representations.specs.Quiver.{Quiver, opposite, BoundQuiver, opposite_algebra, with_relations}
 use Rattle.representations.specs.Rep.{Rep, IsMod}
@@ -15,8 +14,8 @@ use Rattle.module_types.specs.declared.Side.{Side}
 use Rattle.module_types.specs.declared.Side.TheVariants.{Right, Left}
 use Rattle.module_types.specs.declared.Module.{Module}
 use Rattle.module_types.specs.Algebras.{other_side, sided, algebra_at}
-use Rattle.module_types.specs.Readings.{dim_at, rep_of, read, IsModuleOver}
-use Rattle.module_types.specs.Shapes.{IsModule, dimension}
+use Rattle.module_types.specs.Readings.{rep_of, IsModuleOver}
+use Rattle.module_types.specs.Shapes.{IsModule}
 use Rattle.module_types.specs.Written.{written, dual_of}
 use Rattle.module_types.proofs.Written.{rep_of-written, written-shape, written-rep_of}
 use Rattle.module_types.proofs.BlockSums.{dimension-read}

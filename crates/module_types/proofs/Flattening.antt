@@ -1,9 +1,9 @@
 -- The entries of a flattened map, and how a list of numbers is read as one.
-use Rattle.std.proofs.Common.{ℕ, ◌≡◌, ◌<◌, ◌+◌, ◌*◌, List, get_or, refl, sym, ap, ◌∙◌, arith}
+use Rattle.std.proofs.Common.{ℕ, ◌≡◌, ◌<◌, ◌+◌, ◌*◌, List, get_or, refl, sym, ◌∙◌, arith}
 use Rattle.linear_algebra.specs.Field.{Gf}
 use Rattle.linear_algebra.specs.Matrix.{Mat, Mat-eq_below, Row}
-use Rattle.linear_algebra.specs.LinearMaps.{flatten, unflatten}
-use Rattle.linear_algebra.specs.BlockFamilies.{beside_all, column_block, total}
+use Rattle.linear_algebra.specs.LinearMaps.{flatten}
+use Rattle.linear_algebra.specs.BlockFamilies.{column_block}
 use Rattle.linear_algebra.specs.Solutions.{flatten_all, unflatten_all}
 use Rattle.linear_algebra.specs.Rows.{IsRow}
 use Rattle.linear_algebra.specs.Typed.{as_row}

@@ -3,7 +3,7 @@
 use Rattle.std.proofs.Common.{ℕ, ◌≡◌, ◌<◌, ◌+◌, ◌%◌, List, get_or, arith, sym, ap, ap₂, ◌∙◌}
 use mathlib.Core.Path.{fun_ext}
 use Rattle.linear_algebra.specs.Field.{Gf, order}
-use Rattle.linear_algebra.specs.Matrix.{Mat, Row, zeros, ◌·◌, ◌⊞◌, ◌⊟◌, negative, transpose, beside, stack}
+use Rattle.linear_algebra.specs.Matrix.{Row, zeros, ◌·◌, ◌⊞◌, ◌⊟◌, negative, transpose, beside}
 use Rattle.linear_algebra.specs.BlockFamilies.{total, sum_all}
 use Rattle.linear_algebra.proofs.BlockFamilies.{sum_all-same}
 use Rattle.linear_algebra.proofs.Blocks.{beside_stack}

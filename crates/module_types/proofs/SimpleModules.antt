@@ -1,9 +1,9 @@
 -- The simple module at a vertex is a module over each algebra whose relations have no trivial path, and so over that of an allowed header, on both sides.
-use Rattle.std.proofs.Common.{ℕ, zero, suc, ◌≡◌, ◌<◌, ◌≤◌, ◌≢◌, inl, inr, List, refl, sym, ap, ap₂, ◌∙◌, subst, arith, length, cond, ltb, lt-ltb}
+use Rattle.std.proofs.Common.{ℕ, zero, suc, ◌≡◌, ◌<◌, ◌≤◌, ◌≢◌, inl, inr, refl, sym, ap, ap₂, ◌∙◌, subst, arith, length, ltb, lt-ltb}
 use Rattle.std.proofs.lemmas.Bool.{cases_eq, cond-true, cond_both}
 use Rattle.std.proofs.lemmas.List.Elements.{All-contains, All-get_or}
 use Rattle.linear_algebra.specs.Field.{Gf}
-use Rattle.linear_algebra.specs.Matrix.{Mat, zeros, delta, delta-same, delta-other, ◌⊞◌, ◌⊙◌, ◌·◌}
+use Rattle.linear_algebra.specs.Matrix.{Mat, zeros, delta, delta-same, delta-other, ◌⊞◌, ◌⊙◌}
 use Rattle.linear_algebra.specs.Families.{combine}
 use Rattle.linear_algebra.specs.BlockFamilies.{total}
 use Rattle.linear_algebra.proofs.MatrixLaws.{mul_zeros, zeros_add, scale_zeros}
@@ -12,10 +12,9 @@ use Rattle.path_algebra.specs.declared.Header.{Header}
 use Rattle.quiver_paths.specs.Path.{trivial_path}
 use Rattle.path_algebra.specs.Allowed.{IsAllowed, IsRelation, IsTerm}
 use Rattle.representations.specs.Quiver.{Quiver, Path, trivial, then, path_length, BoundQuiver, opposite_algebra}
-use Rattle.representations.specs.Rep.{Rep, along, value_of_relation, IsMod}
+use Rattle.representations.specs.Rep.{along, value_of_relation, IsMod}
 use Rattle.representations.proofs.Paths.{along-then}
 use Rattle.representations.proofs.Duals.{path_length-reverse}
-use Rattle.bound_algebra.specs.TypedPaths.{listed, arrows_of}
 use Rattle.bound_algebra.specs.BoundAlgebra.{bound_algebra, relation_of, relation_at, term_at}
 use Rattle.bound_algebra.proofs.TypedPaths.{length-arrows_of}
 use Rattle.bound_algebra.proofs.Relations.{relation_is, relation_listed}
@@ -23,9 +22,9 @@ use Rattle.module_types.specs.declared.Side.{Side}
 use Rattle.module_types.specs.declared.Side.TheVariants.{Right, Left}
 use Rattle.module_types.specs.Algebras.{algebra_at}
 use Rattle.module_types.specs.Readings.{rep_of, IsModuleOver}
-use Rattle.module_types.specs.Shapes.{IsModule, dimension}
+use Rattle.module_types.specs.Shapes.{IsModule}
 use Rattle.module_types.specs.SimpleModules.{simple, dim_of_simple}
-use Rattle.module_types.specs.Written.{written, simple_at}
+use Rattle.module_types.specs.Written.{simple_at}
 use Rattle.module_types.proofs.Written.{rep_of-written, written-shape}
 
 -- its dimensions

@@ -1,10 +1,10 @@
 -- Coordinates of homomorphisms out of a term are the theory's, and following the next differential is composition.
-use Rattle.std.proofs.Common.{ℕ, ◌≡◌, ◌<◌, ◌+◌, List, get_or, sym, ap, ap₂, ◌∙◌}
+use Rattle.std.proofs.Common.{ℕ, ◌≡◌, ◌<◌, ◌+◌, sym, ap, ap₂, ◌∙◌}
 use mathlib.Core.Path.{fun_ext}
 use Rattle.linear_algebra.specs.Field.{Gf}
-use Rattle.linear_algebra.specs.Matrix.{Mat, Row, ◌·◌}
+use Rattle.linear_algebra.specs.Matrix.{Row, ◌·◌}
 use Rattle.linear_algebra.specs.LinearMaps.{matrix_of}
-use Rattle.linear_algebra.specs.BlockFamilies.{beside_all, column_block, total}
+use Rattle.linear_algebra.specs.BlockFamilies.{beside_all, total}
 use Rattle.linear_algebra.proofs.MatrixLaws.{mul_assoc_mat}
 use Rattle.linear_algebra.proofs.BlockFamilies.{beside_all-same, column_block-at, column_block_of}
 use Rattle.representations.specs.Quiver.{Quiver, BoundQuiver}
@@ -17,7 +17,7 @@ use Rattle.projectives.specs.HomRows.{value, hom_of_rows}
 use Rattle.projectives.specs.Extensions.{coordinate_row, hom_of_row, composition_matrix}
 use Rattle.projectives.proofs.Families.{generator-from_rows}
 use Rattle.module_types.specs.declared.TermRows.{TermRows}
-use Rattle.module_types.specs.TermMatrices.{count, vertex, generator_row, sum_of_term, rows_along}
+use Rattle.module_types.specs.TermMatrices.{count, vertex, generator_row, sum_of_term}
 use Rattle.module_types.specs.TermCoordinates.{coordinates, value_in, follow, follow_matrix}
 use Rattle.module_types.proofs.TermMatrices.{hom_of_rows-at}
 

@@ -1,5 +1,5 @@
 -- The matrices of homomorphisms that are given by rows and by columns: they are the theory's, and their entries.
-use Rattle.std.proofs.Common.{ℕ, zero, suc, ◌≡◌, ◌<◌, ◌≤◌, ◌+◌, ◌-◌, List, inl, inr, refl, sym, ap, ◌∙◌, arith, subst, ltb, lt-ltb, not-suc-le-zero, mod-eq_of_lt}
+use Rattle.std.proofs.Common.{ℕ, zero, suc, ◌≡◌, ◌<◌, ◌+◌, ◌-◌, List, inl, inr, refl, sym, ap, ◌∙◌, arith, subst, ltb, lt-ltb, not-suc-le-zero, mod-eq_of_lt}
 use Rattle.std.proofs.lemmas.Bool.{cases_eq, cases_lt, cond-true}
 use Rattle.linear_algebra.specs.Field.{Gf}
 use Rattle.linear_algebra.specs.Matrix.{Mat, Mat-eq_below, Row, Column, ◌·◌, stack, transpose, join}
@@ -12,7 +12,7 @@ use Rattle.linear_algebra.proofs.BlockFamilies.{total_grows}
 use Rattle.linear_algebra.proofs.Typed.{as_mat-at}
 use Rattle.representations.specs.Quiver.{Quiver, BoundQuiver, opposite_algebra}
 use Rattle.representations.specs.Rep.{Rep, IsMod}
-use Rattle.representations.specs.Hom.{Hom, zero_hom}
+use Rattle.representations.specs.Hom.{zero_hom}
 use Rattle.representations.specs.Sum.{sum_family, from_sum}
 use Rattle.representations.specs.Dual.{dual}
 use Rattle.representations.proofs.SumFamilies.{from_family}
@@ -24,7 +24,6 @@ use Rattle.projectives.specs.Families.{projectives}
 use Rattle.projectives.specs.Components.{family_out, component}
 use Rattle.projectives.specs.HomRows.{hom_of_rows}
 use Rattle.projectives.specs.TwoSided.{TwoSided, other}
-use Rattle.projectives.specs.Injective.{injectives}
 use Rattle.projectives.specs.Pairing.{hom_of_columns}
 use Rattle.projectives.proofs.Places.{sum_family-dim}
 use Rattle.projectives.proofs.Turning.{turn-at}

@@ -1,10 +1,8 @@
 -- A row along a word, on both sides: along the arrows of the word from first to last on the right, from last to first on the left.
 use Rattle.std.proofs.Common.{ℕ, ◌≡◌, ◌<◌, ◌≤◌, ◌⊎◌, inl, inr, List, [], ◌∷◌, ◌++◌, refl, sym, ap, ◌∙◌, arith}
 use Rattle.std.proofs.lemmas.Bool.{cases_lt}
-use mathlib.Core.Path.{fun_ext}
-use Rattle.linear_algebra.specs.Field.{Gf, mul}
-use Rattle.linear_algebra.specs.Sums.{sum_to}
-use Rattle.linear_algebra.specs.Matrix.{Mat, Row, ◌·◌}
+use Rattle.linear_algebra.specs.Field.{Gf}
+use Rattle.linear_algebra.specs.Matrix.{Row, ◌·◌}
 use Rattle.linear_algebra.proofs.MatrixLaws.{mul_one_mat, mul_assoc_mat}
 use Rattle.quiver_paths.specs.declared.Path.{Path}
 use Rattle.path_algebra.specs.declared.Header.{Header}
@@ -15,11 +13,10 @@ use Rattle.representations.specs.Rep.{Rep, along}
 use Rattle.representations.proofs.Paths.{along-trivial, along-then, along_after}
 use Rattle.module_types.specs.Walks.{step, walk, walk_back}
 use Rattle.projectives.specs.Words.{word_at, along_word}
-use Rattle.projectives.specs.TwoSided.{reversed, other}
 use Rattle.bound_algebra.specs.TypedPaths.{quiver_of, arrows_of}
-use Rattle.bound_algebra.specs.AlgebraWords.{count, word_in, word, algebra_words, arrows_before, none_start}
+use Rattle.bound_algebra.specs.NormalWords.{word_count, normal_word, typed_word}
+use Rattle.bound_algebra.specs.AlgebraWords.{algebra_words, opposite_words}
 use Rattle.bound_algebra.proofs.TypedPaths.{arrows_of-path_of}
-use Rattle.bound_algebra.proofs.TwoSidedBasis.{two_sided}
 
 module _ {q : Gf} {Q : Quiver} (X : Rep q Q) where
   step_is : (a : ℕ) (y : Row q (X.dim (Q.source a))) → (y · X.mat a).at 0 ≡ step X a (y.at 0)
@@ -47,22 +44,22 @@ walk_reverse {q} {Q} X {v} (then a p) x =
     ∙ walk_reverse X p (x · X.mat a) ∙ ap (λ f. walk_back X f (arrows_of p)) (step_is X a x) ∙ sym (walk_back_push X (x.at 0) (arrows_of p) a)
 
 module _ (h : Header) (ok : IsAllowed h) (words : List Path) (w : AreNormalWords h words) where
-  right_by : (X : Rep h.field (quiver_of h.quiver)) (b c i : ℕ) → i < count h ok words w b c → (x : Row h.field (X.dim b)) (d : (i < count h ok words w b c) ⊎ (count h ok words w b c ≤ i))
-      → (x · word_at (algebra_words h ok words w) X b c i d).at 0 ≡ walk X (x.at 0) (word_in h ok words w b c i).arrows
-  right_by X b c i l x (inl k) = walk_along X (word h ok words w b c i k) x ∙ ap (walk X (x.at 0)) (arrows_of-path_of h.quiver b (word_in h ok words w b c i).arrows c _)
+  right_by : (X : Rep h.field (quiver_of h.quiver)) (b c i : ℕ) → i < word_count h ok words w b c → (x : Row h.field (X.dim b)) (d : (i < word_count h ok words w b c) ⊎ (word_count h ok words w b c ≤ i))
+      → (x · word_at (algebra_words h ok words w) X b c i d).at 0 ≡ walk X (x.at 0) (normal_word h ok words w b c i).arrows
+  right_by X b c i l x (inl k) = walk_along X (typed_word h ok words w b c i k) x ∙ ap (walk X (x.at 0)) (arrows_of-path_of h.quiver b (normal_word h ok words w b c i).arrows c _)
   right_by X b c i l x (inr k) = absurd (omega arith)
 
-  pub along_right_word : (X : Rep h.field (quiver_of h.quiver)) (b c i : ℕ) → i < count h ok words w b c → (x : Row h.field (X.dim b))
-      → (x · along_word (two_sided h ok words w).words X b c i).at 0 ≡ walk X (x.at 0) (word_in h ok words w b c i).arrows
-  unfolding two_sided along_word
-  along_right_word X b c i l x = right_by X b c i l x (cases_lt i (count h ok words w b c))
+  pub along_right_word : (X : Rep h.field (quiver_of h.quiver)) (b c i : ℕ) → i < word_count h ok words w b c → (x : Row h.field (X.dim b))
+      → (x · along_word (algebra_words h ok words w) X b c i).at 0 ≡ walk X (x.at 0) (normal_word h ok words w b c i).arrows
+  unfolding along_word
+  along_right_word X b c i l x = right_by X b c i l x (cases_lt i (word_count h ok words w b c))
 
-  left_by : (X : Rep h.field (opposite (quiver_of h.quiver))) (b c i : ℕ) → i < count h ok words w c b → (x : Row h.field (X.dim b)) (d : (i < count h ok words w c b) ⊎ (count h ok words w c b ≤ i))
-      → (x · word_at (reversed (algebra_words h ok words w) (arrows_before h ok words w) (none_start h ok words w)) X b c i d).at 0 ≡ walk_back X (x.at 0) (word_in h ok words w c b i).arrows
-  left_by X b c i l x (inl k) = walk_reverse X (word h ok words w c b i k) x ∙ ap (walk_back X (x.at 0)) (arrows_of-path_of h.quiver c (word_in h ok words w c b i).arrows b _)
+  left_by : (X : Rep h.field (opposite (quiver_of h.quiver))) (b c i : ℕ) → i < word_count h ok words w c b → (x : Row h.field (X.dim b)) (d : (i < word_count h ok words w c b) ⊎ (word_count h ok words w c b ≤ i))
+      → (x · word_at (opposite_words h ok words w) X b c i d).at 0 ≡ walk_back X (x.at 0) (normal_word h ok words w c b i).arrows
+  left_by X b c i l x (inl k) = walk_reverse X (typed_word h ok words w c b i k) x ∙ ap (walk_back X (x.at 0)) (arrows_of-path_of h.quiver c (normal_word h ok words w c b i).arrows b _)
   left_by X b c i l x (inr k) = absurd (omega arith)
 
-  pub along_left_word : (X : Rep h.field (opposite (quiver_of h.quiver))) (b c i : ℕ) → i < count h ok words w c b → (x : Row h.field (X.dim b))
-      → (x · along_word (other (two_sided h ok words w)) X b c i).at 0 ≡ walk_back X (x.at 0) (word_in h ok words w c b i).arrows
-  unfolding two_sided along_word
-  along_left_word X b c i l x = left_by X b c i l x (cases_lt i (count h ok words w c b))
+  pub along_left_word : (X : Rep h.field (opposite (quiver_of h.quiver))) (b c i : ℕ) → i < word_count h ok words w c b → (x : Row h.field (X.dim b))
+      → (x · along_word (opposite_words h ok words w) X b c i).at 0 ≡ walk_back X (x.at 0) (normal_word h ok words w c b i).arrows
+  unfolding along_word
+  along_left_word X b c i l x = left_by X b c i l x (cases_lt i (word_count h ok words w c b))

@@ -1,8 +1,8 @@
 -- Reading undoes writing, and writing undoes reading.
-use Rattle.std.proofs.Common.{ℕ, zero, suc, refl, ◌+◌, ◌≡◌, ◌<◌, ◌≤◌, ◌*◌, inl, inr, List, [], map, length, get_or, slice_index, sym, ap, ap₂, ◌∙◌, subst, arith, cond, ltb, lt-ltb}
+use Rattle.std.proofs.Common.{ℕ, zero, suc, refl, ◌+◌, ◌≡◌, ◌<◌, ◌≤◌, ◌*◌, inl, inr, List, [], length, get_or, slice_index, sym, ap, ap₂, ◌∙◌, subst, arith, ltb, lt-ltb}
 use Rattle.std.proofs.Math.Nat.{mul-le-mul}
 use Rattle.std.proofs.lemmas.Bool.{cases_lt, cond-true}
-use Rattle.std.proofs.lemmas.List.{get_or-map, get_or_default}
+use Rattle.std.proofs.lemmas.List.{get_or-map}
 use Rattle.linear_algebra.specs.Field.{Gf}
 use Rattle.linear_algebra.specs.Matrix.{Mat}
 use Rattle.linear_algebra.specs.BlockFamilies.{total}
@@ -11,14 +11,14 @@ use Rattle.linear_algebra.specs.Typed.{as_mat, grid_of}
 use Rattle.linear_algebra.proofs.Rows.{length-list_of, get_or-list_of, list_of-is}
 use Rattle.linear_algebra.proofs.Typed.{as_mat-grid_of, IsGrid-grid_of, grid_of-as_mat}
 use Rattle.linear_algebra.proofs.BlockFamilies.{total_grows}
-use Rattle.fp_linear.specs.Matrix.{PlainMatrix, plain, IsMatrix, most_entries}
+use Rattle.fp_linear.specs.Matrix.{PlainMatrix, plain, most_entries}
 use Rattle.representations.specs.Quiver.{Quiver}
 use Rattle.representations.specs.Rep.{Rep}
 use Rattle.representations.proofs.RepEqual.{Rep-eq}
 use Rattle.module_types.specs.declared.Side.{Side}
 use Rattle.module_types.specs.declared.Module.{Module}
 use Rattle.module_types.specs.Readings.{dim_at, dim_past, rows_at, rep_of}
-use Rattle.module_types.specs.Shapes.{HasShape, AreMatrices, IsModule, dimension}
+use Rattle.module_types.specs.Shapes.{HasShape, IsModule, dimension}
 use Rattle.module_types.specs.Written.{written}
 
 -- the dimension at a vertex that there is

@@ -1,6 +1,6 @@
 -- What is printed of a presentation and of a functional, read over the words of an algebra on both sides; whatever is printed is read. On the left it is
 -- read over the same words with the sides exchanged. (Assem, Simson, Skowroński, volume 1, chapter III, 2, and IV, 2.)
-use Rattle.std.specs.Prelude.{ℕ, zero, ◌+◌, List, [], slice_index}
+use Rattle.std.specs.Prelude.{ℕ, ◌+◌, List, [], slice_index}
 use Rattle.linear_algebra.specs.Field.{Gf}
 use Rattle.linear_algebra.specs.Matrix.{Mat, Row, Column, made, ◌·◌, stack, negative}
 use Rattle.linear_algebra.specs.BlockFamilies.{sum_all, total}

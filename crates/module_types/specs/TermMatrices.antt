@@ -1,6 +1,6 @@
 -- Terms of a resolution read as sums of projective modules, and homomorphisms out of them by the rows that their generators go to; for representations
 -- that need not be modules, since whatever is printed is read. (Assem, Simson, Skowroński, volume 1, chapter III, 2.)
-use Rattle.std.specs.Prelude.{ℕ, zero, suc, List, [], length, slice_index_or}
+use Rattle.std.specs.Prelude.{ℕ, zero, suc, [], length, slice_index_or}
 use Rattle.linear_algebra.specs.Field.{Gf}
 use Rattle.linear_algebra.specs.Matrix.{Mat, Row, Column, zeros, ◌·◌, transpose, stack}
 use Rattle.linear_algebra.specs.Typed.{as_row}

@@ -4,6 +4,7 @@
 use fp_linear::Matrix;
 use seq::Seq;
 
+pub mod laws;
 mod modules;
 mod sides;
 
