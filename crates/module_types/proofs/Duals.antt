@@ -8,12 +8,12 @@ use Rattle.representations.specs.Quiver.{Quiver, opposite, BoundQuiver, opposite
 use Rattle.representations.specs.Rep.{Rep, IsMod}
 use Rattle.representations.specs.Dual.{dual}
 use Rattle.representations.proofs.Duals.{dual_dual, IsMod-dual}
-use Rattle.projectives.specs.TwoSided.{relations_back}
+use Rattle.projectives.specs.TwoSided.{TwoSided, relations_back}
 use Rattle.bound_algebra.specs.BoundAlgebra.{bound_algebra}
 use Rattle.module_types.specs.declared.Side.{Side}
 use Rattle.module_types.specs.declared.Side.TheVariants.{Right, Left}
 use Rattle.module_types.specs.declared.Module.{Module}
-use Rattle.module_types.specs.Algebras.{other_side, sided, algebra_at}
+use Rattle.module_types.specs.Algebras.{other_side, sided, algebra_at, words_at, sided_words}
 use Rattle.module_types.specs.Readings.{rep_of, IsModuleOver}
 use Rattle.module_types.specs.Shapes.{IsModule}
 use Rattle.module_types.specs.Written.{written, dual_of}
@@ -28,6 +28,11 @@ other_other Left = refl
 pub quiver_across : (s : Side) (A : BoundQuiver) → (sided (other_side s) A).quiver ≡ opposite (sided s A).quiver
 quiver_across Right A = refl
 quiver_across Left A = refl
+
+-- The words of a side are the words of the two sides, exchanged on the left.
+pub words_across : {q : Gf} {A : BoundQuiver} (s : Side) (T : TwoSided q A) → (sided_words s T).words ≡ words_at s T
+words_across Right T = refl
+words_across Left T = refl
 
 -- A representation is a module where its dual is one.
 pub IsMod-of_dual : {q : Gf} (A : BoundQuiver) (X : Rep q A.quiver) → IsMod (opposite_algebra A) (dual X) → IsMod A X

@@ -16,7 +16,8 @@ ghost use Rattle.representations.specs.Sum.{zero_rep, sum_rep, sum_family};
 ghost use Rattle.representations.specs.Dual.{dual};
 ghost use Rattle.module_types.specs.declared.Side.{Side as Hand};
 ghost use Rattle.module_types.specs.declared.Module.{Module as Printed};
-ghost use Rattle.module_types.specs.Algebras.{other_side, sided, algebra_at};
+ghost use Rattle.projectives.specs.TwoSided.{TwoSided};
+ghost use Rattle.module_types.specs.Algebras.{other_side, sided, algebra_at, words_at, sided_words};
 ghost use Rattle.module_types.specs.Readings.{dim_at, rep_of, IsModuleOver, IsHom, hom_by};
 ghost use Rattle.module_types.specs.Shapes.{IsModule, dimension};
 ghost use Rattle.module_types.specs.SimpleModules.{simple, dim_of_simple};
@@ -78,10 +79,12 @@ pub fn duals()
     ensures over { (h : Header) (m : Printed) → IsModuleOver h m → IsModuleOver h (dual_of h.field (algebra_at m.side h).quiver m) }
 {}
 
-/// The side of the other side is the side itself, and its quiver is the opposite one.
+/// The side of the other side is the side itself, and its quiver is the opposite one. The words of a side are those of the two sides, exchanged on the
+/// left.
 pub fn sides()
     ensures back { (s : Hand) → other_side (other_side s) ≡ s }
     ensures across { (s : Hand) (A : BoundQuiver) → (sided (other_side s) A).quiver ≡ opposite (sided s A).quiver }
+    ensures words { (q : Gf) (A : BoundQuiver) (s : Hand) (T : TwoSided q A) → (sided_words s T).words ≡ words_at s T }
 {}
 
 /// The simple module at a vertex is read as the representation with dimension 1 there, none elsewhere, and zero matrices; it has the shape of a module,
