@@ -7,6 +7,7 @@ use Rattle.linear_algebra.specs.Matrix.{join}
 use Rattle.linear_algebra.specs.BlockFamilies.{total}
 use Rattle.linear_algebra.proofs.Rows.{get_or-list_of}
 use Rattle.linear_algebra.proofs.DirectSum.{diagonal-upper, diagonal-lower}
+use Rattle.path_algebra.specs.declared.Header.{Header}
 use Rattle.representations.specs.Quiver.{Quiver, BoundQuiver}
 use Rattle.representations.specs.Rep.{Rep, IsMod}
 use Rattle.representations.specs.Sum.{zero_rep, sum_rep, sum_family}
@@ -14,7 +15,8 @@ use Rattle.representations.proofs.Sums.{IsMod-sum, IsMod-family}
 use Rattle.projectives.proofs.Places.{sum_family-dim}
 use Rattle.module_types.specs.declared.Side.{Side}
 use Rattle.module_types.specs.declared.Module.{Module}
-use Rattle.module_types.specs.Readings.{dim_at, rep_of}
+use Rattle.module_types.specs.Algebras.{algebra_at}
+use Rattle.module_types.specs.Readings.{dim_at, rep_of, IsModuleOver}
 use Rattle.module_types.specs.Shapes.{IsModule, dimension}
 use Rattle.module_types.specs.Written.{written, block_sum, block_sum_of, part_at}
 use Rattle.module_types.proofs.Written.{total-same, dim_at-below, rep_of-written, written-shape}
@@ -109,3 +111,9 @@ module _ {q : Gf} (A : BoundQuiver) where
 
   pub block_sum_of-module : (side : Side) (parts : List Module) → ((i : ℕ) → i < length parts → IsMod A (part_at q A.quiver side parts i)) → IsMod A (rep_of q A.quiver (block_sum_of q A.quiver side parts))
   block_sum_of-module side parts m = subst (IsMod A) (sym (rep_of-block_sum_of q A.quiver side parts)) (IsMod-family A (length parts) (part_at q A.quiver side parts) m)
+
+-- Over a header: the block sum of two modules of one side is a module of that side.
+pub block_sum_over : (h : Header) (a b : Module) → a.side ≡ b.side → IsModuleOver h a → IsModuleOver h b → IsModuleOver h (block_sum h.field (algebra_at a.side h).quiver a b)
+unfolding block_sum
+block_sum_over h a b e m n =
+    block_sum-module (algebra_at a.side h) a b m (subst (λ s. IsMod (algebra_at s h) (rep_of h.field (algebra_at s h).quiver b)) (sym e) n)

@@ -41,6 +41,8 @@ pub fn block_sums()
         → IsModule q Q (block_sum q Q a b) }
     ensures module { (q : Gf) (A : BoundQuiver) (a b : Printed) → IsMod A (rep_of q A.quiver a) → IsMod A (rep_of q A.quiver b)
         → IsMod A (rep_of q A.quiver (block_sum q A.quiver a b)) }
+    ensures over { (h : Header) (a b : Printed) → a.side ≡ b.side → IsModuleOver h a → IsModuleOver h b
+        → IsModuleOver h (block_sum h.field (algebra_at a.side h).quiver a b) }
     ensures dims { (q : Gf) (Q : Quiver) (a b : Printed) (v : ℕ) → v < Q.vertices
         → slice_index (block_sum q Q a b).dims v ≡ slice_index a.dims v + slice_index b.dims v }
     ensures upper { (q : Gf) (Q : Quiver) (a b : Printed) (r i j : ℕ) → i < dim_at Q a.dims (Q.source r)

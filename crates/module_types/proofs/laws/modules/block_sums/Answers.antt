@@ -1,4 +1,4 @@
-use Rattle.module_types.proofs.BlockSums.{rep_of-block_sum, block_sum-side, block_sum-shape, block_sum-module, block_sum-dims, block_sum-upper, block_sum-lower}
+use Rattle.module_types.proofs.BlockSums.{rep_of-block_sum, block_sum-side, block_sum-shape, block_sum-module, block_sum_over, block_sum-dims, block_sum-upper, block_sum-lower}
 use Rattle.module_types.proofs.laws.modules.block_sums.Goals as goal
 
 pub returns-clause-read : goal.returns-clause-read
@@ -21,3 +21,6 @@ returns-clause-upper c = λ q Q a b r i j l. block_sum-upper q Q a b r i j l
 
 pub returns-clause-lower : goal.returns-clause-lower
 returns-clause-lower c = λ q Q a b r i j. block_sum-lower q Q a b r i j
+
+pub returns-clause-over : goal.returns-clause-over
+returns-clause-over c = λ h a b e m n. block_sum_over h a b e m n
