@@ -16,7 +16,7 @@ use std::alloc::{AllocError, Global};
 use std::marker::Model;
 
 /// A matrix over a field of the table, of at most 67,108,864 entries. It acts on rows from the right.
-#[derive(Drop)]
+#[derive(Debug, Drop)]
 pub struct Matrix {
     field: Field,
     rows: u32,
@@ -33,6 +33,20 @@ impl Model for Matrix {
     ghost view = { λ m. plain m.field m.rows m.cols (rows_of m.rows m.cols m.entries.items) };
 
     ghost invariant = { λ m. HoldsMatrix m.field m.rows m.cols m.entries.items };
+}
+
+impl Clone for Matrix {
+    ghost is_clone = { λ m copy. copy ≡ m };
+
+    fn clone(&self) -> Result<Self, AllocError> {
+        let entries = self.entries.clone()?;
+        Ok(Matrix {
+            field: self.field,
+            rows: self.rows,
+            cols: self.cols,
+            entries,
+        })
+    }
 }
 
 impl Matrix {

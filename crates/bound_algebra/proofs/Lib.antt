@@ -1,0 +1,15 @@
+pub mod Forms
+pub mod FormsBetween
+pub mod Functionals
+pub mod LocalModules
+pub mod ModuleEntries
+pub mod ModulesByTerms
+pub mod ModulesByEntries
+pub mod NormalWordsExist
+pub mod PathMatrices
+pub mod ProductMatrices
+pub mod Relations
+pub mod TwoSidedBasis
+pub mod TypedPaths
+pub mod WordBasis
+pub mod WordModules

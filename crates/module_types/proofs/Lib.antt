@@ -1,0 +1,9 @@
+pub mod BlockSums
+pub mod Duals
+pub mod Flattening
+pub mod Presentations
+pub mod SimpleModules
+pub mod TermCoordinates
+pub mod TermMatrices
+pub mod WordWalks
+pub mod Written

@@ -1,0 +1,10 @@
+pub mod Algebras
+pub mod Flattening
+pub mod Presentations
+pub mod Readings
+pub mod Shapes
+pub mod SimpleModules
+pub mod TermCoordinates
+pub mod TermMatrices
+pub mod Walks
+pub mod Written
