@@ -58,10 +58,10 @@ parallel_terms (x ∷ rest) par a b m n = elim (Contains-cons_cases x rest a m) 
 ]
 
 -- the terms of a relation all meet the two paths, or its product with them is zero
-record MeetsTerms (u v : Path) (terms : List Term) : Type 0 where
-  meets : (a : Term) → Contains terms a → (u.end ≡ a.path.start) × (a.path.end ≡ v.start)
+pub record MeetsTerms (u v : Path) (terms : List Term) : Type 0 where
+  pub meets : (a : Term) → Contains terms a → (u.end ≡ a.path.start) × (a.path.end ≡ v.start)
 
-cases_meet : (h : Header) (u v : Path) (r : Relation) → IsRelation h r → MeetsTerms u v r.terms ⊎ ((p : Path) → product_between h.bound u (relation_element h r) v p ≡ 0)
+pub cases_meet : (h : Header) (u v : Path) (r : Relation) → IsRelation h r → MeetsTerms u v r.terms ⊎ ((p : Path) → product_between h.bound u (relation_element h r) v p ≡ 0)
 cases_meet h u v r is = go r.terms is.terms is.parallel
   where
     apart : (a : Term) (rest : List Term) → All (IsTerm h) (a ∷ rest) → AllPairs (λ (b c : Term). IsParallel b.path c.path) (a ∷ rest)

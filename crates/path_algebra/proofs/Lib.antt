@@ -9,6 +9,7 @@ pub mod ColumnList
 pub mod Collecting
 pub mod AllRows
 pub mod SumsOver
+pub mod ListedPaths
 pub mod Acting
 pub mod Occurrences
 pub mod IdealProducts

@@ -24,7 +24,7 @@ use Rattle.path_algebra.proofs.Occurrences.{cases_occurrence}
 use Rattle.path_algebra.proofs.Reducing.{AreRules, tail_term, rewritten_smaller}
 
 -- arrows lead from one vertex to another, or they do not
-cases_leads : (Q : Quiver) (u : ℕ) (xs : List ℕ) (w : ℕ) → Leads Q u xs w ⊎ (Leads Q u xs w → ⊥)
+pub cases_leads : (Q : Quiver) (u : ℕ) (xs : List ℕ) (w : ℕ) → Leads Q u xs w ⊎ (Leads Q u xs w → ⊥)
 cases_leads Q u [] w = cases_eq u w
 cases_leads Q u (a ∷ xs) w = elim (cases_lt a (arrow_count Q)) [
   | inr l ↦ inr (λ h. omega (arith, l, h.0))

@@ -1,13 +1,10 @@
 -- The rows of the products of words with arrows, word by word and arrow by arrow.
 use Rattle.std.proofs.Common.{ℕ, ◌≡◌, ◌≢◌, ◌<◌, ◌≤◌, ◌+◌, ◌*◌, ◌-◌, ◌⊎◌, inl, inr, List, [], ◌∷◌, ◌++◌, length, get_or, Bool, true, false, eqb, if◌then◌else◌, refl, sym, ap, ap₂, ◌∙◌, subst, arith, length-append}
-use Rattle.std.specs.Prelude.{Contains}
 use Rattle.std.proofs.lemmas.Bool.{cases_lt, cases_eq, cases_order, cond-true, cond-false, eq-eqb, ne_eqb}
 use Rattle.std.proofs.lemmas.Nat.{mul-add-lt}
 use Rattle.std.proofs.lemmas.List.{get_or_append_left, get_or-append_right, get_or_default}
-use Rattle.std.proofs.lemmas.List.Elements.{Contains-get_or}
-use Rattle.linear_algebra.specs.Field.{Gf, add}
+use Rattle.linear_algebra.specs.Field.{add}
 use Rattle.linear_algebra.specs.FieldLaws.{order-pos, one-lt-order, zero_add}
-use Rattle.linear_algebra.specs.Sums.{sum_to, sum-first, sum-none}
 use Rattle.linear_algebra.specs.Rows.{unit}
 use Rattle.linear_algebra.proofs.Rows.{list_of-same}
 use Rattle.quiver_paths.specs.declared.Quiver.{Quiver}
@@ -17,17 +14,17 @@ use Rattle.quiver_paths.specs.Path.{IsPath, Leads, path_length, concat, trivial_
 use Rattle.quiver_paths.specs.PathOrder.{IsSmaller, IsAscending, DiffersBelow, ComesBefore}
 use Rattle.quiver_paths.specs.PathOrder.ComesBefore.{shorter, by_arrows, by_start}
 use Rattle.quiver_paths.proofs.PathLemmas.{IsPath-concat, IsPath-arrow, IsPath-same, path_length-concat}
-use Rattle.quiver_paths.proofs.PathOrderLemmas.{ComesBefore-from_smaller, smaller_from_comes_before, IsSmaller-from_shorter, IsSmaller-irreflexive}
+use Rattle.quiver_paths.proofs.PathOrderLemmas.{ComesBefore-from_smaller, smaller_from_comes_before, IsSmaller-from_shorter}
 use Rattle.quiver_paths.proofs.PathListLemmas.{smaller_places}
 use Rattle.path_algebra.specs.declared.Header.{Header}
 use Rattle.path_algebra.specs.declared.rules.Rule.{Rule}
 use Rattle.word_products.specs.declared.sparse.Entry.{Entry}
-use Rattle.path_algebra.specs.Elements.{sum_over, path_element}
+use Rattle.path_algebra.specs.Elements.{path_element}
 use Rattle.path_algebra.specs.Words.{IsShortPath}
 use Rattle.path_algebra.specs.Rows.{path_at, row_of}
 use Rattle.path_algebra.specs.Reduction.{IsReduction}
 use Rattle.word_products.specs.WordProducts.{product_with, IsSparseRow, AreProductRows, KnowsProducts, CanAct}
-use Rattle.path_algebra.proofs.SumsOver.{sum_over-nil, sum_over-cons}
+pub use Rattle.path_algebra.proofs.ListedPaths.{word_once, word_listed, sum_to-over}
 use Rattle.path_algebra.proofs.ElementLemmas.{path_element-self, path_element-other}
 use Rattle.path_algebra.proofs.Reducing.{AreRules}
 use Rattle.path_algebra.proofs.Independent.{AreActedOn}
@@ -35,21 +32,9 @@ use Rattle.word_products.proofs.SparseActs.{entry_at-none, entry_at-push}
 
 -- ---- places
 
-pub word_once : (words : List Path) → IsAscending words → (i j : ℕ) → i < length words → j < length words → path_at words i ≡ path_at words j → i ≡ j
-unfolding path_at
-word_once words asc i j l k e = elim (cases_order i j) [
-  | inl same ↦ same
-  | inr (inl lt) ↦ absurd (IsSmaller-irreflexive (path_at words j) (subst (λ x. IsSmaller x (path_at words j)) e (asc i j (trivial_path 0) lt k)))
-  | inr (inr lt) ↦ absurd (IsSmaller-irreflexive (path_at words j) (subst (IsSmaller (path_at words j)) e (asc j i (trivial_path 0) lt l)))
-]
-
 pub word_place : (words : List Path) → IsAscending words → (i j : ℕ) → i < length words → j < length words → IsSmaller (path_at words i) (path_at words j) → i < j
 unfolding path_at
 word_place words asc i j l k s = smaller_places words asc i j (trivial_path 0) l k s
-
-pub word_listed : (words : List Path) (i : ℕ) → i < length words → Contains words (path_at words i)
-unfolding path_at
-word_listed words i l = Contains-get_or words i (trivial_path 0) l
 
 pub word_at : (words : List Path) (i : ℕ) (p : Path) → i < length words → get_or words i p ≡ p → path_at words i ≡ p
 unfolding path_at
@@ -121,11 +106,6 @@ product_before Q words asc i j a b li lj lb hi hj p s = by_case (ComesBefore-fro
         absurd (omega (arith, l, same_start Q v w (b ∷ []) (a ∷ []) hj hi (omega (arith, lengths, p)) p e))
 
 -- ---- rows
-
-pub sum_to-over : (q : Gf) (words : List Path) (f : Path → ℕ) → sum_to q (length words) (λ i. f (path_at words i)) ≡ sum_over q words f
-unfolding path_at
-sum_to-over q [] f = sum-none q _ ∙ sym (sum_over-nil {X = Path} q f)
-sum_to-over q (w ∷ words) f = sum-first q (length words) (λ i. f (path_at (w ∷ words) i)) ∙ ap (add q (f w)) (sum_to-over q words f) ∙ sym (sum_over-cons q w words f)
 
 -- the row of a word
 pub unit-is : (t : ℕ) (words : List Path) → IsAscending words → (p j : ℕ) → p < length words → j < length words → path_length (path_at words p) < t
