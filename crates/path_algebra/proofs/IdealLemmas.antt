@@ -12,7 +12,7 @@ use Rattle.quiver_paths.specs.Path.{IsPath, path_length}
 use Rattle.path_algebra.specs.declared.Term.{Term}
 use Rattle.path_algebra.specs.declared.Relation.{Relation}
 use Rattle.path_algebra.specs.declared.Header.{Header}
-use Rattle.path_algebra.specs.Elements.{path_element, sum_of_terms, middle, product_between}
+use Rattle.path_algebra.specs.Elements.{IsElement, path_element, sum_of_terms, middle, product_between}
 use Rattle.path_algebra.specs.Ideals.{Summand, IsSummand, relation_element, summand_element, sum_of_summands, IsInIdeal}
 use Rattle.path_algebra.specs.Words.{IsShortPath}
 use Rattle.path_algebra.specs.Allowed.{IsAllowed, IsRelation, IsTerm}
@@ -128,3 +128,6 @@ sum_support h ok (s ∷ rest) l p n = elim (cases_eq (summand_element h s p) 0) 
 
 pub IsInIdeal_support : (h : Header) → IsAllowed h → (x : Path → ℕ) → IsInIdeal h x → (p : Path) → x p ≢ 0 → IsShortPath h p
 IsInIdeal_support h ok x m p n = sum_support h ok m.summands m.lawful p (λ e. n (m.value p ∙ e))
+
+pub IsInIdeal-element : (h : Header) → IsAllowed h → (x : Path → ℕ) → IsInIdeal h x → IsElement h.field h.quiver h.bound x
+IsInIdeal-element h ok x m = record { small = IsInIdeal-below h x m; support = λ p n. let s = IsInIdeal_support h ok x m p n in (s.path, s.short) }

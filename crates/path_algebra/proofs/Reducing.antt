@@ -15,20 +15,13 @@ use Rattle.path_algebra.specs.declared.Term.{Term}
 use Rattle.path_algebra.specs.declared.Header.{Header}
 use Rattle.path_algebra.specs.declared.rules.Rule.{Rule}
 use Rattle.path_algebra.specs.Words.{IsShortPath}
-use Rattle.path_algebra.specs.Allowed.{IsAllowed}
 use Rattle.path_algebra.specs.Rules.{AreElementTerms}
+pub use Rattle.path_algebra.specs.Reduction.{AreRules}
 use Rattle.path_algebra.specs.Reduction.{HasNoTip, FirstOccurrence, sum_between, IsReduction}
 use Rattle.path_algebra.specs.BasisClauses.{WordsHold}
 use Rattle.path_algebra.proofs.ElementLemmas.{path_element-below, path_element-other}
 use Rattle.path_algebra.proofs.SumsOver.{sum_over_below, sum_over-zeros}
 use Rattle.path_algebra.proofs.Occurrences.{cases_occurrence}
-
--- what is known of rules whose paths are reduced
-pub record AreRules (h : Header) (rules : List Rule) : Type 0 where
-  pub allowed : IsAllowed h
-  pub tips : All (λ (rule : Rule). IsPath h.quiver rule.tip) rules
-  pub tails : All (λ (rule : Rule). AreElementTerms h rule.tail.terms) rules
-  pub greater : All (λ (rule : Rule). All (λ (a : Term). IsSmaller a.path rule.tip) rule.tail.terms) rules
 
 -- a term of a tail
 pub record IsTailTerm (h : Header) (rule : Rule) (a : Term) : Type 0 where

@@ -18,10 +18,11 @@ use Rattle.path_algebra.specs.declared.Term.{Term}
 use Rattle.path_algebra.specs.declared.Header.{Header}
 use Rattle.path_algebra.specs.declared.rules.Rule.{Rule}
 use Rattle.path_algebra.specs.Elements.{path_element}
+pub use Rattle.path_algebra.specs.Reduction.{HasReduction}
 use Rattle.path_algebra.specs.Reduction.{HasNoTip, FirstOccurrence, sum_between, IsReduction}
 use Rattle.path_algebra.proofs.SumsOver.{sum_over-same}
 use Rattle.path_algebra.proofs.Occurrences.{cases_occurrence}
-use Rattle.path_algebra.proofs.Reducing.{AreRules, tail_term, rewritten_smaller}
+use Rattle.path_algebra.proofs.Reducing.{AreRules, tail_term, by_reduction, rewritten_smaller}
 
 -- arrows lead from one vertex to another, or they do not
 pub cases_leads : (Q : Quiver) (u : ℕ) (xs : List ℕ) (w : ℕ) → Leads Q u xs w ⊎ (Leads Q u xs w → ⊥)
@@ -312,14 +313,19 @@ tips_are_once (x ∷ rules) asc a b m n e = elim (Contains-cons_cases x rules a 
   ]
 ]
 
--- a reduction
-pub record HasReduction (h : Header) (rules : List Rule) : Type 0 where
-  pub becomes : Path → Path → ℕ
-  pub is : IsReduction h rules becomes
-
 pub reduction_exists : (h : Header) (rules : List Rule) → AreRules h rules → AllPairs (λ (a b : Rule). IsSmaller a.tip b.tip) rules
     → ((a b : Rule) → Contains rules a → Contains rules b → a.tip ≢ b.tip → IsFactor h.quiver a.tip b.tip → ⊥) → HasReduction h rules
 reduction_exists h rules k asc antichain = record {
   becomes = becomes_of h rules k antichain (tips_are_once rules asc);
   is = is_reduction h rules k antichain (tips_are_once rules asc);
 }
+
+-- two reductions make the same of each path of the quiver
+pub reduction_once : (h : Header) (rules : List Rule) → AreRules h rules → (f g : Path → Path → ℕ) → IsReduction h rules f → IsReduction h rules g
+    → (p : Path) → IsPath h.quiver p → (r : Path) → f p r ≡ g p r
+reduction_once h rules k f g a b = by_reduction h rules k (λ p. (r : Path) → f p r ≡ g p r)
+    (λ p hp l r. a.long p hp l r ∙ sym (b.long p hp l r))
+    (λ p s n r. a.stays p s n r ∙ sym (b.stays p s n r))
+    (λ p s o before r. a.rewritten p s o r
+    ∙ sum_between-same h f g o.before o.rule.tail.terms o.behind r (λ t m mu mv. before t m mu mv (rewritten_smaller h rules k p o t m mu mv) r)
+    ∙ sym (b.rewritten p s o r))

@@ -1,14 +1,29 @@
 -- Reduction of paths by rules, and the action of arrows on words by reduction. (Green.)
-use Rattle.std.specs.Prelude.{ℕ, ◌≡◌, ◌≤◌, List, [], ◌∷◌, Contains, ◌&&◌, if◌then◌else◌, ◌==◌, nat_lt}
+use Rattle.std.specs.Prelude.{ℕ, ◌≡◌, ◌≢◌, ◌≤◌, List, [], ◌∷◌, Contains, All, AllPairs, ◌&&◌, if◌then◌else◌, ◌==◌, nat_lt}
 use Rattle.linear_algebra.specs.Field.{mul}
 use Rattle.quiver_paths.specs.declared.Path.{Path}
 use Rattle.quiver_paths.specs.Path.{IsPath, path_length, Meets, concat, arrow_path, IsFactor}
+use Rattle.quiver_paths.specs.PathOrder.{IsSmaller}
 use Rattle.quiver_paths.specs.Quiver.{source}
 use Rattle.path_algebra.specs.declared.Term.{Term}
 use Rattle.path_algebra.specs.declared.Header.{Header}
 use Rattle.path_algebra.specs.declared.rules.Rule.{Rule}
 use Rattle.path_algebra.specs.Elements.{sum_over, path_element}
+use Rattle.path_algebra.specs.Allowed.{IsAllowed}
+use Rattle.path_algebra.specs.Rules.{AreElementTerms}
 use Rattle.path_algebra.specs.Words.{IsShortPath}
+
+-- Rules that paths can be reduced by: each tip is a path of the quiver, each tail a combination of short paths that are smaller than its tip.
+pub record AreRules (h : Header) (rules : List Rule) : Type 0 where
+  pub allowed : IsAllowed h
+  pub tips : All (λ (rule : Rule). IsPath h.quiver rule.tip) rules
+  pub tails : All (λ (rule : Rule). AreElementTerms h rule.tail.terms) rules
+  pub greater : All (λ (rule : Rule). All (λ (a : Term). IsSmaller a.path rule.tip) rule.tail.terms) rules
+
+-- the tips ascend, and none is a factor of another
+pub record TipsApart (h : Header) (rules : List Rule) : Type 0 where
+  pub ascending : AllPairs (λ (a b : Rule). IsSmaller a.tip b.tip) rules
+  pub apart : (a b : Rule) → Contains rules a → Contains rules b → a.tip ≢ b.tip → IsFactor h.quiver a.tip b.tip → ⊥
 
 -- no tip is a factor of p
 abbrev pub HasNoTip : Header → List Rule → Path → Type 0
@@ -39,6 +54,11 @@ pub record IsReduction (h : Header) (rules : List Rule) (becomes : Path → Path
   pub stays : (p : Path) → IsShortPath h p → HasNoTip h rules p → (r : Path) → becomes p r ≡ path_element h.bound p r
   pub rewritten : (p : Path) → IsShortPath h p → (o : FirstOccurrence h rules p) → (r : Path)
       → becomes p r ≡ sum_between h becomes o.before o.rule.tail.terms o.behind r
+
+-- there is a reduction
+pub record HasReduction (h : Header) (rules : List Rule) : Type 0 where
+  pub becomes : Path → Path → ℕ
+  pub is : IsReduction h rules becomes
 
 -- The arrow acts on x: the sum of what the words with the arrow behind them become, with the coefficients that x has at the words. A word that
 -- does not meet the arrow becomes zero.

@@ -2,16 +2,17 @@
 ghost use Rattle.std.specs.Prelude.{◌≡◌, ◌≢◌, ◌<◌, ◌≤◌, ◌⊎◌, ℕ, List, Contains, length};
 ghost use Rattle.linear_algebra.specs.Field.{add, mul};
 ghost use Rattle.quiver_paths.specs.declared.Path.{Path};
-ghost use Rattle.quiver_paths.specs.Path.{Meets, concat, path_length};
+ghost use Rattle.quiver_paths.specs.Path.{IsPath, Meets, concat, path_length};
 ghost use Rattle.path_algebra.specs.declared.rules.Rule.{Rule};
 ghost use Rattle.path_algebra.specs.declared.rules.Step.{Step};
 ghost use Rattle.path_algebra.specs.BasisClauses.{IsBasisClaim, StepsHold, MeetsClauses};
 ghost use Rattle.path_algebra.specs.declared.Header.{Header};
-ghost use Rattle.path_algebra.specs.Elements.{product_between};
+ghost use Rattle.path_algebra.specs.Elements.{IsElement, product_between};
 ghost use Rattle.path_algebra.specs.Ideals.{IsInIdeal};
 ghost use Rattle.path_algebra.specs.Allowed.{IsAllowed};
 ghost use Rattle.path_algebra.specs.Words.{IsShortPath, IsTip, IsNormal, AreNormalWords, IsBasis};
 ghost use Rattle.path_algebra.specs.Rules.{rule_element, AreReducedRules};
+ghost use Rattle.path_algebra.specs.Reduction.{AreRules, TipsApart, IsReduction, HasReduction};
 ghost use Rattle.path_algebra.specs.Derivations.{AreSteps, step_elements, element_at};
 
 /// The coefficient of u·x·v at u·m·v is that of x at m; it is zero at paths of the bound's length or more, and at paths that are no such product.
@@ -22,11 +23,24 @@ pub fn product_at()
     ensures elsewhere { (t : ℕ) (u : Path) (x : Path → ℕ) (v p : Path) → ((m : Path) → Meets u m → Meets m v → p ≢ concat u (concat m v)) → product_between t u x v p ≡ 0 }
 {}
 
-/// The ideal is closed under sums and multiples; its members are zero but at paths of the quiver that are shorter than the bound.
+/// The ideal is closed under sums and multiples; its members are elements: zero but at paths of the quiver that are shorter than the bound, with
+/// coefficients in the field.
 pub fn ideal_is_a_subspace()
     ensures sum { (h : Header) (x y : Path → ℕ) → IsInIdeal h x → IsInIdeal h y → IsInIdeal h (λ p. add h.field (x p) (y p)) }
     ensures multiple { (h : Header) (c : ℕ) (x : Path → ℕ) → IsInIdeal h x → IsInIdeal h (λ p. mul h.field c (x p)) }
     ensures support { (h : Header) → IsAllowed h → (x : Path → ℕ) → IsInIdeal h x → (p : Path) → x p ≢ 0 → IsShortPath h p }
+    ensures elements { (h : Header) → IsAllowed h → (x : Path → ℕ) → IsInIdeal h x → IsElement h.field h.quiver h.bound x }
+{}
+
+/// Where no tip is a factor of another, there is a reduction by the rules. (Green.)
+pub fn reduction_exists()
+    ensures { (h : Header) (rules : List Rule) → AreRules h rules → TipsApart h rules → HasReduction h rules }
+{}
+
+/// Two reductions by the same rules make the same of each path of the quiver. So there is exactly one where no tip is a factor of another.
+pub fn reductions_agree()
+    ensures { (h : Header) (rules : List Rule) → AreRules h rules → (f g : Path → Path → ℕ) → IsReduction h rules f → IsReduction h rules g
+        → (p : Path) → IsPath h.quiver p → (r : Path) → f p r ≡ g p r }
 {}
 
 /// The normal words are a basis of the quotient: each path shorter than the bound is congruent to exactly one combination of them. (Green.)

@@ -10,24 +10,26 @@ use std::alloc::AllocError;
 
 mod derivations;
 pub mod laws;
+mod path_places;
 mod rules;
 mod sums;
 mod tips;
 
 pub use derivations::{arrow_path, elements_of, terms_before, terms_behind, terms_of_relation};
+pub use path_places::{path_place, then_arrow};
 pub use rules::{BasisFault, Element, Rule, Step};
 pub use sums::plus_multiple;
 pub use tips::{compare_arrows, ends_in_tip, has_tip, tip_place};
 
 /// A coefficient, from 1 to the field's size less 1, and a path.
-#[derive(Debug, Drop)]
+#[derive(Debug, Drop, PartialEq, Eq)]
 pub struct Term {
     pub coef: u8,
     pub path: Path,
 }
 
 /// A sum of terms that is zero in the algebra.
-#[derive(Debug, Drop)]
+#[derive(Debug, Drop, PartialEq, Eq)]
 pub struct Relation {
     pub terms: Seq<Term>,
 }

@@ -5,7 +5,7 @@ use quiver_paths::Path;
 use seq::Seq;
 
 /// A combination of different paths shorter than the bound, the greatest first, with coefficients from 1 to the field's size less 1.
-#[derive(Debug, Drop)]
+#[derive(Debug, Drop, PartialEq, Eq)]
 pub struct Element {
     pub terms: Seq<Term>,
 }
@@ -24,7 +24,7 @@ pub enum Step {
 }
 
 /// The tip is congruent to the tail; their difference is the element of the step with this number.
-#[derive(Debug, Drop)]
+#[derive(Debug, Drop, PartialEq, Eq)]
 pub struct Rule {
     pub tip: Path,
     pub tail: Element,
