@@ -61,20 +61,15 @@ module _ (h : Header) (words : List Path) (rules : List Rule) (rows : List (List
         (λ becomes red old. word-row h words rules next.can becomes red i a place next.place l (meets e) (word_at words place path l f ∙ product path p)))
 
     pub step_new : (path : Path) → word.end ≡ x.from → path ≡ concat word (arrow_path h.quiver a) → path_length word + 1 < h.bound
-        → ((k : ℕ) → k < length words → get_or words k path ≡ path → ⊥) → IsNewProduct h words i a path
+        → (Contains words path → ⊥) → IsNewProduct h words i a path
     step_new path e p s d = record {
       place = next.place;
       arrow = next.arrow;
       meets = meets e;
       is = product path p;
       short = omega (arith, s, ap path_length p, length-with word h.quiver a);
-      new = λ m. d m.0 m.1 m.2;
+      new = d;
     }
-
-    pub step_once : (path : Path) → word.end ≡ x.from → path ≡ concat word (arrow_path h.quiver a) → (y : Path) → Contains words y → y.arrows ≡ path.arrows → y.start ≡ path.start → y ≡ path
-    step_once path e p y m arrows starts = IsPath-same h.quiver y path (next.can.word.only y m).0.path
-        (subst (IsPath h.quiver) (sym (product path p)) (IsPath-concat h.quiver (path_at words i) (arrow_path h.quiver a) (short_word h words rules next.can i next.place).path
-        (IsPath-arrow h.quiver a next.can.allowed.quiver.ends next.arrow) (meets e))) starts arrows
 
   -- the path that is rewritten
   module _ (p : Path) (n : IsNewProduct h words i a p) where

@@ -10,11 +10,10 @@ ghost use Rattle.word_products.specs.WordProducts.{KnowsProducts, CanAct, EndsWi
 
 use crate::sparse::{Entry, SparseRows};
 use crate::word_sums::Sum;
-use path_algebra::{Header, Rule};
-use quiver_paths::{Path, compare};
+use path_algebra::{Header, Rule, path_place, then_arrow};
+use quiver_paths::Path;
 use seq::Seq;
 use std::alloc::{AllocError, Global};
-use std::cmp::Ordering;
 
 /// The rows of the products of the words with the arrows: for each word, in order, one for each arrow.
 pub(crate) fn product_rows(
@@ -94,70 +93,14 @@ fn add_product(
     if word.arrows.len() + 1 >= header.bound as usize {
         return rows.push_row(&[]);
     }
-    let path = then_arrow(alloc, header, word, a as u8)?;
-    match find(words, &path) {
+    let path = then_arrow(alloc, &header.quiver, word, a as u8)?;
+    match path_place(words, &path) {
         Some(place) => rows.push_row(&[Entry {
             coef: 1,
             word: place as u16,
         }]),
         None => add_rewritten(alloc, header, words, rules, i, a, &path, rows, sum),
     }
-}
-
-/// The word with the arrow behind it.
-fn then_arrow(alloc: Global, header: &Header, word: &Path, arrow: u8) -> Result<Path, AllocError>
-    requires arrow { arrow < arrow_count header.now.quiver }
-    requires short { path_length word.now ≤ 64 }
-    ensures { IfOk result (λ p. p ≡ concat word.now (arrow_path header.now.quiver arrow)) }
-{
-    let mut arrows = Vec::with_capacity(alloc, word.arrows.len() + 1)?;
-    arrows.extend_from_slice(word.arrows.as_slice())?;
-    arrows.push(arrow)?;
-    Ok(Path {
-        start: word.start,
-        end: header.quiver.arrows[arrow as usize].to,
-        arrows: Seq::from_vec(arrows),
-    })
-}
-
-/// The place of a path among ascending paths; none where it is not one of them.
-fn find(paths: &[Path], path: &Path) -> Option<usize>
-    requires ascending { IsAscending paths.now }
-    requires once { (x : Path) → Contains paths.now x → x.arrows ≡ path.now.arrows → x.start ≡ path.now.start → x ≡ path.now }
-    ensures { MatchOption result ((k : ℕ) → k < length paths.now → slice_index_or paths.now k path.now ≡ path.now → ⊥)
-        (λ k. (k < length paths.now) × (slice_index_or paths.now k path.now ≡ path.now)) }
-{
-    let mut low = 0;
-    let mut high = paths.len();
-    while low < high {
-        let middle = low + (high - low) / 2;
-        match compare(&paths[middle], path) {
-            Ordering::Less => low = middle + 1,
-            Ordering::Equal => return Some(middle),
-            Ordering::Greater => high = middle,
-        }
-    }
-    None
-}
-
-/// The place of a path among ascending paths that have it.
-fn place_of(paths: &[Path], path: &Path) -> usize
-    requires ascending { IsAscending paths.now }
-    requires listed { Contains paths.now path.now }
-    ensures inside { result < length paths.now }
-    ensures there { slice_index_or paths.now result path.now ≡ path.now }
-{
-    let mut low = 0;
-    let mut high = paths.len();
-    while low < high {
-        let middle = low + (high - low) / 2;
-        match compare(&paths[middle], path) {
-            Ordering::Less => low = middle + 1,
-            Ordering::Equal => return middle,
-            Ordering::Greater => high = middle,
-        }
-    }
-    low
 }
 
 /// Adds the product of the word at a place with an arrow, which is a short path and no word: it ends with a tip, in whose place the tail is put.
@@ -217,7 +160,10 @@ fn add_by_rule(
 {
     let rule = &rules[k];
     let front = front_of(alloc, path, &rule.tip)?;
-    let place = place_of(words, &front);
+    let place = match path_place(words, &front) {
+        Some(place) => place,
+        None => unreachable!(),
+    };
     sum.of_terms(
         rows,
         header.quiver.arrows.len(),

@@ -8,11 +8,11 @@ use Rattle.word_products.specs.WordProducts.{EndsWithArrows, IsPushed}
 use Rattle.word_products.proofs.ProductSteps.{step_front, step_tail, tail_arrows, tail_coefs}
 use Rattle.word_products.proofs.multiplying.add_by_rule.Goals as goal
 
-pub place_of-place-requires-clause-listed : goal.place_of-place-requires-clause-listed
-place_of-place-requires-clause-listed c = step_front c.args.header.now c.args.words.now c.args.rules.now c.args.rows.now.rows c.args.i c.args.a
+pub unreachable-requires : goal.unreachable-requires
+unreachable-requires c = c.in-None.ensures (step_front c.args.header.now c.args.words.now c.args.rules.now c.args.rows.now.rows c.args.i c.args.a
     (record { can = c.requires.can; place = c.requires.product.place; arrow = c.requires.product.arrow; count = c.requires.count; known = c.requires.products })
     c.args.path.now c.requires.product c.index-rules-k.result (c.args.k, c.requires.rule, sym c.index-rules-k.is)
-    (subst (λ (x : Rule). EndsWithArrows x.tip c.args.path.now) (sym c.index-rules-k.is) (c.requires.ends c.index-rules-k.result)) c.in_ok-front.front c.in_ok-front.ensures
+    (subst (λ (x : Rule). EndsWithArrows x.tip c.args.path.now) (sym c.index-rules-k.is) (c.requires.ends c.index-rules-k.result)) c.in_ok-front.front c.in_ok-front.ensures)
 
 pub of_terms-requires-clause-terms : goal.of_terms-requires-clause-terms
 of_terms-requires-clause-terms c = rw (c.len.ensures, c.as_slice.ensures)
@@ -27,9 +27,9 @@ returns-clause-products c = on_ok_weaker c.push_sum.result (λ e. step_tail c.ar
     (record { can = c.requires.can; place = c.requires.product.place; arrow = c.requires.product.arrow; count = c.requires.count; known = c.requires.products })
     c.args.path.now c.requires.product c.index-rules-k.result (c.args.k, c.requires.rule, sym c.index-rules-k.is)
     (subst (λ (x : Rule). EndsWithArrows x.tip c.args.path.now) (sym c.index-rules-k.is) (c.requires.ends c.index-rules-k.result))
-    c.push_sum.new.rows.rows c.in_ok-front.front c.place_of-place.result c.of_terms.new.self.sum c.in_ok-front.ensures c.place_of-place.ensures.inside c.place_of-place.ensures.there
+    c.push_sum.new.rows.rows c.in_ok-front.front c.in-Some.place c.of_terms.new.self.sum c.in_ok-front.ensures c.in-Some.ensures.0 c.in-Some.ensures.1
     (ap (λ (v : SumView). v.sum) c.in_ok-of_terms.ensures
-    ∙ ap₂ (λ n ts. acted_terms c.args.sum.now.field c.args.rows.now.rows n c.args.header.now.bound c.index-rules-k.result.tip ts (unit c.args.sum.now.width c.place_of-place.result)) c.len.ensures c.as_slice.ensures
+    ∙ ap₂ (λ n ts. acted_terms c.args.sum.now.field c.args.rows.now.rows n c.args.header.now.bound c.index-rules-k.result.tip ts (unit c.args.sum.now.width c.in-Some.place)) c.len.ensures c.as_slice.ensures
     ∙ ap (λ (v : SumView). acted_terms v.field c.args.rows.now.rows (arrow_count c.args.header.now.quiver) c.args.header.now.bound c.index-rules-k.result.tip c.index-rules-k.result.tail.terms
-    (unit v.width c.place_of-place.result)) c.requires.sum)
+    (unit v.width c.in-Some.place)) c.requires.sum)
     (subst (λ q. IsPushed q c.args.rows.now.rows c.push_sum.new.rows.rows c.of_terms.new.self.sum) (ap (λ (v : SparseView). v.field) c.requires.shape) e)) c.push_sum.ensures.pushed

@@ -1,7 +1,7 @@
 use Rattle.std.proofs.Common.{ap, arith}
 use Rattle.std.proofs.lemmas.Result.{on_ok_weaker}
 use Rattle.word_products.specs.SparseRows.{SparseView}
-use Rattle.word_products.proofs.ProductSteps.{step_apart, step_long, step_word, step_new, step_once}
+use Rattle.word_products.proofs.ProductSteps.{step_apart, step_long, step_word, step_new}
 use Rattle.word_products.proofs.multiplying.add_product.Goals as goal
 
 pub returns-then-word-arrow-clause-products : goal.returns-then-word-arrow-clause-products
@@ -14,11 +14,6 @@ returns-then-len-header-clause-products c = on_ok_weaker c.push_row-then-len-hea
     (record { can = c.requires.can; place = c.requires.place; arrow = c.requires.arrow; count = c.requires.count; known = c.requires.products })
     c.index-words-i.result c.index-arrow.result.now c.index-words-i.is c.index-arrow.ensures c.push_row-then-len-header.new.self.rows c.if-word-arrow.false
     (let t = c.if-len-header.true in omega (arith, c.len.ensures, t)) (ap (λ (v : SparseView). v.rows) e)) c.push_row-then-len-header.ensures
-
-pub find-requires-clause-once : goal.find-requires-clause-once
-find-requires-clause-once c = step_once c.args.header.now c.args.words.now c.args.rules.now c.args.rows.now.rows c.args.i c.args.a
-    (record { can = c.requires.can; place = c.requires.place; arrow = c.requires.arrow; count = c.requires.count; known = c.requires.products })
-    c.index-words-i.result c.index-arrow.result.now c.index-words-i.is c.index-arrow.ensures c.in_ok-path.path c.if-word-arrow.false c.in_ok-path.ensures
 
 pub returns-in-Some-clause-products : goal.returns-in-Some-clause-products
 returns-in-Some-clause-products c = on_ok_weaker c.push_row-in-Some.result (λ e. step_word c.args.header.now c.args.words.now c.args.rules.now c.args.rows.now.rows c.args.i c.args.a
