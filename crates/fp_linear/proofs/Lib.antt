@@ -5,6 +5,7 @@ pub mod Fields
 pub mod InvertOf
 pub mod KernelOf
 pub mod Matrices
+pub mod Meeting
 pub mod MultipleTables
 pub mod Products
 pub mod RankOf

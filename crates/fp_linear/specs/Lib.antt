@@ -1,5 +1,6 @@
 pub mod Elimination
 pub mod Matrix
+pub mod Meeting
 pub mod Products
 pub mod Sizes
 pub mod Slices
