@@ -4,6 +4,7 @@ pub mod Elimination
 pub mod Fields
 pub mod InvertOf
 pub mod KernelOf
+pub mod LentRows
 pub mod Matrices
 pub mod Meeting
 pub mod MultipleTables

@@ -1,6 +1,7 @@
 -- Slices that hold a matrix row by row, and what a write to a part of a slice leaves.
 use Rattle.std.specs.Prelude.{ℕ, ◌<◌, ◌≤◌, ◌≡◌, ◌≢◌, ◌+◌, ◌*◌, List, length, slice_index}
 use Rattle.linear_algebra.specs.Field.{Gf, order, add, mul}
+use Rattle.linear_algebra.specs.Rows.{list_of}
 use Rattle.fp_linear.specs.Tables.{letter}
 
 -- the entry in row i and column j of a slice that holds rows of n entries one after another
@@ -24,6 +25,15 @@ pub record AreApart (a b count : ℕ) : Type 0 where
 -- what stands at target + j once `factor` times what stands at source + j is added to it
 abbrev pub added : Gf → ℕ → ℕ → ℕ → List ℕ → ℕ → ℕ
 added q factor source target s j = add q (slice_index s (target + j)) (mul q factor (slice_index s (source + j)))
+
+-- the row `target` plus `factor` times the row `source`
+unfoldable pub plus_multiple : Gf → ℕ → List ℕ → List ℕ → List ℕ
+plus_multiple q factor source target = list_of (length target) (λ j. add q (slice_index target j) (mul q factor (slice_index source j)))
+
+-- to the first k places of old `factor` times those of the source are added, the others stay
+pub record HasAdded (q : Gf) (factor : ℕ) (source old new : List ℕ) (k : ℕ) : Type 0 where
+  pub done : (j : ℕ) → j < k → slice_index new j ≡ add q (slice_index old j) (mul q factor (slice_index source j))
+  pub rest : (j : ℕ) → k ≤ j → slice_index new j ≡ slice_index old j
 
 -- the products of a number with each element of the field, in order
 pub record IsRowOfProducts (q : Gf) (factor : ℕ) (s : List ℕ) : Type 0 where

@@ -6,7 +6,7 @@ ghost use Rattle.linear_algebra.specs.Reduced.{ReducesTo};
 ghost use Rattle.fp_linear.specs.Slices.{cell, AreElements, IsWritten};
 ghost use Rattle.fp_linear.specs.Elimination.{IsPartlyReduced, AreExchanged, IsScaled, IsCleared};
 
-use crate::add::add_multiple;
+use crate::add::add_within;
 use crate::field::Field;
 
 /// Brings the matrix of `rows` rows and `cols` columns whose rows stand in `entries` one after another into reduced row form, and answers its
@@ -136,7 +136,7 @@ fn clear_column(
         if i != row {
             let factor = field.neg(entries[i * cols + column]);
             if factor != 0 {
-                add_multiple(
+                add_within(
                     field,
                     factor,
                     row * cols + column,

@@ -12,6 +12,7 @@ mod scratch;
 mod separate;
 mod tables;
 
+pub use add::add_multiple;
 pub use echelon::echelon_rows;
 pub use field::Field;
 pub use matrix::{Matrix, echelon_in_place};

@@ -7,7 +7,7 @@ ghost use Rattle.fp_linear.specs.Slices.{AreElements, cell};
 ghost use Rattle.fp_linear.specs.Elimination.{IsRowCleared, IsFunctionalUpTo};
 ghost use Rattle.fp_linear.specs.Matrix.{PlainMatrix};
 
-use crate::add::add_multiple;
+use crate::add::add_within;
 use crate::echelon::echelon_rows;
 use crate::field::Field;
 use crate::matrix::Matrix;
@@ -63,7 +63,7 @@ fn clear_row(field: Field, row: usize, cols: usize, rank: usize, pivots: &[u32],
     for i in 0..rank {
         let factor = field.neg(entries[row * cols + pivots[i] as usize]);
         if factor != 0 {
-            add_multiple(field, factor, i * cols, row * cols, cols, entries);
+            add_within(field, factor, i * cols, row * cols, cols, entries);
         }
     }
 }

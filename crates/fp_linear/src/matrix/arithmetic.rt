@@ -6,7 +6,7 @@ ghost use Rattle.fp_linear.specs.Slices.{AreElements, cell};
 ghost use Rattle.fp_linear.specs.Matrix.{PlainMatrix, plain, IsMatrix, most_entries};
 ghost use Rattle.fp_linear.specs.Products.{HasProductRow, HasProductRows};
 
-use crate::add::add_multiple;
+use crate::add::add_within;
 use crate::blocks::put_columns;
 use crate::field::Field;
 use crate::matrix::Matrix;
@@ -127,7 +127,7 @@ fn multiply_row(
     for k in 0..inner {
         let factor = left[i * inner + k];
         if factor != 0 {
-            add_multiple(field, factor, (rows + k) * cols, i * cols, cols, entries);
+            add_within(field, factor, (rows + k) * cols, i * cols, cols, entries);
         }
     }
 }

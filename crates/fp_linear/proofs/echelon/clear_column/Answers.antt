@@ -15,10 +15,10 @@ loop-i-preserved c =
       | then-i-row+then-factor-ne0 w ↦
           rw w.entries-is
           record {
-            cleared = IsClearedBelow-more c.args.field c.args.rows c.args.cols c.args.row c.args.column c.loop-i.i w.neg-factor.result c.args.entries.now c.loop-i.entries w.add_multiple.new.entries
+            cleared = IsClearedBelow-more c.args.field c.args.rows c.args.cols c.args.row c.args.column c.loop-i.i w.neg-factor.result c.args.entries.now c.loop-i.entries w.add_within.new.entries
                 c.requires.elements c.requires.before c.requires.inside c.loop-i-test.true c.requires.column_inside w.if-i-row.true
-                (w.neg-factor.ensures ∙ ap (neg c.args.field) (sym (cell-is c.args.cols c.loop-i.entries c.loop-i.i c.args.column))) w.add_multiple.ensures.written c.loop-i.invariant.cleared;
-            elements = w.add_multiple.ensures.elements;
+                (w.neg-factor.ensures ∙ ap (neg c.args.field) (sym (cell-is c.args.cols c.loop-i.entries c.loop-i.i c.args.column))) w.add_within.ensures.written c.loop-i.invariant.cleared;
+            elements = w.add_within.ensures.elements;
           }
       | then-i-row+else-factor-ne0 w ↦
           rw w.entries-is
@@ -35,8 +35,8 @@ loop-i-preserved c =
           }
     ]
 
-pub add_multiple-requires-clause-below : goal.add_multiple-requires-clause-below
-add_multiple-requires-clause-below c = rw c.neg-factor.ensures (neg_below c.args.field _)
+pub add_within-requires-clause-below : goal.add_within-requires-clause-below
+add_within-requires-clause-below c = rw c.neg-factor.ensures (neg_below c.args.field _)
 
-pub add_multiple-requires-clause-apart : goal.add_multiple-requires-clause-apart
-add_multiple-requires-clause-apart c = AreApart-rows c.args.cols c.args.row c.loop-i.i c.args.column (c.args.cols - c.args.column) (λ e. c.if-i-row.true (sym e)) (omega arith)
+pub add_within-requires-clause-apart : goal.add_within-requires-clause-apart
+add_within-requires-clause-apart c = AreApart-rows c.args.cols c.args.row c.loop-i.i c.args.column (c.args.cols - c.args.column) (λ e. c.if-i-row.true (sym e)) (omega arith)

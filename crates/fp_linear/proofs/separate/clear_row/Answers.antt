@@ -18,9 +18,9 @@ loop-i-preserved c =
       | then-factor-ne0 w ↦
           rw w.entries-is
           record {
-            cleared = IsRowCleared-more c.args.field c.args.cols c.args.row c.loop-i.i c.args.rank c.neg-factor.result (λ (i : ℕ). get_or c.args.pivots.now i 0) c.args.entries.now c.loop-i.entries w.add_multiple.new.entries
-                c.requires.elements c.loop-i-test.true c.requires.fits c.requires.inside c.requires.cleared (c.neg-factor.ensures ∙ ap (neg c.args.field) (sym there)) w.add_multiple.ensures.written c.loop-i.invariant.cleared;
-            elements = w.add_multiple.ensures.elements;
+            cleared = IsRowCleared-more c.args.field c.args.cols c.args.row c.loop-i.i c.args.rank c.neg-factor.result (λ (i : ℕ). get_or c.args.pivots.now i 0) c.args.entries.now c.loop-i.entries w.add_within.new.entries
+                c.requires.elements c.loop-i-test.true c.requires.fits c.requires.inside c.requires.cleared (c.neg-factor.ensures ∙ ap (neg c.args.field) (sym there)) w.add_within.ensures.written c.loop-i.invariant.cleared;
+            elements = w.add_within.ensures.elements;
           }
       | else-factor-ne0 w ↦
           rw w.entries-is
@@ -32,5 +32,5 @@ loop-i-preserved c =
           }
     ]
 
-pub add_multiple-requires-clause-below : goal.add_multiple-requires-clause-below
-add_multiple-requires-clause-below c = rw c.neg-factor.ensures (neg_below c.args.field _)
+pub add_within-requires-clause-below : goal.add_within-requires-clause-below
+add_within-requires-clause-below c = rw c.neg-factor.ensures (neg_below c.args.field _)
