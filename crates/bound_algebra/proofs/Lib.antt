@@ -1,0 +1,13 @@
+pub mod Coordinates
+pub mod Forms
+pub mod Functionals
+pub mod ModuleEntries
+pub mod ModulesByTerms
+pub mod ModulesByEntries
+pub mod NormalWordsExist
+pub mod ProductMatrices
+pub mod Relations
+pub mod TwoSidedBasis
+pub mod TypedPaths
+pub mod WordBasis
+pub mod WordModules
