@@ -1,6 +1,8 @@
 pub mod Coordinates
 pub mod Forms
+pub mod FormsBetween
 pub mod Functionals
+pub mod LocalModules
 pub mod ModuleEntries
 pub mod ModulesByTerms
 pub mod ModulesByEntries

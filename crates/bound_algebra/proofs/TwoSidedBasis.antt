@@ -23,7 +23,7 @@ use Rattle.representations.specs.Rep.{Rep, along, IsMod}
 use Rattle.representations.specs.Dual.{dual}
 use Rattle.representations.proofs.Duals.{along-reverse, reverse_reverse}
 use Rattle.projectives.specs.Words.{Words, IsWord, IsWordBasis, projective, word_at, along_word}
-use Rattle.projectives.specs.TwoSided.{TwoSided, reversed}
+use Rattle.projectives.specs.TwoSided.{TwoSided, other}
 use Rattle.projectives.proofs.TwoSided.{IsMod-dual_back}
 use Rattle.bound_algebra.specs.TypedPaths.{quiver_of, arrows_of, listed}
 use Rattle.bound_algebra.specs.BoundAlgebra.{bound_algebra}
@@ -46,7 +46,7 @@ module _ (h : Header) (ok : IsAllowed h) (words : List Path) (w : AreNormalWords
   abbrev R : Words h.field (opposite (quiver_of h.quiver))
   R = opposite_words h ok words w
 
-  word_listed_is : (b c i : ℕ) (l : i < word_count h ok words w b c) → listed (typed_word h ok words w b c i l) ≡ normal_word h ok words w b c i
+  pub word_listed_is : (b c i : ℕ) (l : i < word_count h ok words w b c) → listed (typed_word h ok words w b c i l) ≡ normal_word h ok words w b c i
   word_listed_is b c i l = let r = word_from_to h ok words w b c i l in Path-eq _ (normal_word h ok words w b c i) (sym r.starts) (sym r.ends) (word_arrows h ok words w b c i l)
 
   word_leads : (b c i : ℕ) (l : i < word_count h ok words w b c) → Leads h.quiver b (arrows_of (typed_word h ok words w b c i l)) c
@@ -166,6 +166,14 @@ module _ (h : Header) (ok : IsAllowed h) (words : List Path) (w : AreNormalWords
     basis = right_basis;
     opposite_basis = left_basis;
   }
+
+  pub two_sided-words : two_sided.words ≡ algebra_words h ok words w
+  unfolding two_sided
+  two_sided-words = refl
+
+  pub two_sided-other : other two_sided ≡ opposite_words h ok words w
+  unfolding two_sided
+  two_sided-other = refl
 
   -- the trivial path is the first word
   pub place-first : (v : ℕ) → two_sided.basis.place v ≡ zero

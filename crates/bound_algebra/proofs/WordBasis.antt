@@ -120,13 +120,13 @@ module _ (h : Header) (ok : IsAllowed h) (words : List Path) (w : AreNormalWords
 
   -- ---- products with arrows
 
-  arrow_end : (b a i : ℕ) → i < word_count h ok words w b (source h.quiver a) → a < arrow_count h.quiver
+  pub arrow_end : (b a i : ℕ) → i < word_count h ok words w b (source h.quiver a) → a < arrow_count h.quiver
   arrow_end b a i l = elim (cases_lt a (arrow_count h.quiver)) [
     | inl k ↦ k
     | inr k ↦ absurd (let z = none_end h ok words w b (source h.quiver a) (source_past h.quiver a k) in omega (arith, z, l))
   ]
 
-  arrow_start : (c a i : ℕ) → i < word_count h ok words w (target h.quiver a) c → a < arrow_count h.quiver
+  pub arrow_start : (c a i : ℕ) → i < word_count h ok words w (target h.quiver a) c → a < arrow_count h.quiver
   arrow_start c a i l = elim (cases_lt a (arrow_count h.quiver)) [
     | inl k ↦ k
     | inr k ↦ absurd (let z = none_start h ok words w (target h.quiver a) c (target_past h.quiver a k) in omega (arith, z, l))

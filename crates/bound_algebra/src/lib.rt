@@ -3,3 +3,5 @@
 #![tactic(auto)]
 
 pub mod modules;
+pub mod sequences;
+pub mod words;
