@@ -1,4 +1,3 @@
-pub mod Coordinates
 pub mod Forms
 pub mod FormsBetween
 pub mod Functionals
@@ -7,6 +6,7 @@ pub mod ModuleEntries
 pub mod ModulesByTerms
 pub mod ModulesByEntries
 pub mod NormalWordsExist
+pub mod PathMatrices
 pub mod ProductMatrices
 pub mod Relations
 pub mod TwoSidedBasis

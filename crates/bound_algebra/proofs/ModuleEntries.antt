@@ -29,7 +29,7 @@ use Rattle.bound_algebra.specs.PathMatrices.{path_matrix}
 use Rattle.bound_algebra.proofs.TypedPaths.{arrows_of-join, length-arrows_of, arrows_of-path_of, long_acts}
 use Rattle.bound_algebra.proofs.Relations.{IsSumOf, sum_over-places, relation_is}
 use Rattle.bound_algebra.proofs.Functionals.{Kills}
-use Rattle.bound_algebra.proofs.ModulesByEntries.{path_matrix-typed, path_matrix-apart, zeros-at}
+use Rattle.bound_algebra.proofs.PathMatrices.{path_matrix-typed, path_matrix-apart, zeros-at}
 
 -- a listed relation has a place
 relation_place : (relations : List Relation) (r : Relation) → Contains relations r → (i : ℕ) × (i < length relations) × (relation_at relations i ≡ r)

@@ -28,31 +28,7 @@ use Rattle.bound_algebra.specs.PathMatrices.{path_matrix_by, path_matrix}
 use Rattle.bound_algebra.proofs.TypedPaths.{length-arrows_of, same_arrows, arrows_of-path_of, leads_or_zero}
 use Rattle.bound_algebra.proofs.Relations.{IsSumOf, sum_over-places, relation_is, relation_listed}
 use Rattle.bound_algebra.proofs.Functionals.{Kills}
-
-pub zeros-at : (q : Gf) (m n i j : ℕ) → (zeros q m n).at i j ≡ 0
-unfolding zeros
-zeros-at q m n i j = refl
-
-module _ {q : Gf} (Q : Quiver) (X : Rep q (quiver_of Q)) where
-  path_matrix_by-typed : {v w : ℕ} (t : TypedPath (quiver_of Q) v w) (p : Path) (c : Runs Q v w p ⊎ (Runs Q v w p → ⊥)) → Runs Q v w p → arrows_of t ≡ p.arrows → path_matrix_by Q X v w p c ≡ along X t
-  path_matrix_by-typed {v} {w} t p (inl r) is e = ap (along X) (same_arrows (path_of Q v p.arrows w r.leads) t (arrows_of-path_of Q v p.arrows w r.leads ∙ sym e))
-  path_matrix_by-typed t p (inr n) is e = absurd (n is)
-
-  path_matrix_by-apart : (v w : ℕ) (p : Path) (c : Runs Q v w p ⊎ (Runs Q v w p → ⊥)) → (Runs Q v w p → ⊥) → path_matrix_by Q X v w p c ≡ zeros q (X.dim v) (X.dim w)
-  path_matrix_by-apart v w p (inl r) d = absurd (d r)
-  path_matrix_by-apart v w p (inr n) d = refl
-
-  -- the matrix of a path of these arrows
-  pub path_matrix-typed : {v w : ℕ} (t : TypedPath (quiver_of Q) v w) (p : Path) → Runs Q v w p → arrows_of t ≡ p.arrows → path_matrix Q X v w p ≡ along X t
-  unfolding path_matrix
-  path_matrix-typed {v} {w} t p is e = path_matrix_by-typed t p (cases_runs Q v w p) is e
-
-  pub path_matrix-apart : (v w : ℕ) (p : Path) → (Runs Q v w p → ⊥) → path_matrix Q X v w p ≡ zeros q (X.dim v) (X.dim w)
-  unfolding path_matrix
-  path_matrix-apart v w p d = path_matrix_by-apart v w p (cases_runs Q v w p) d
-
-pub Runs-listed : (Q : Quiver) {v w : ℕ} (p : TypedPath (quiver_of Q) v w) → Leads Q v (arrows_of p) w → Runs Q v w (listed p)
-Runs-listed Q p l = record { starts = refl; ends = refl; leads = l }
+use Rattle.bound_algebra.proofs.PathMatrices.{zeros-at}
 
 -- what an entry of the matrices of the paths from v to w is at each of them
 pub record IsEntry (h : Header) {q : Gf} (X : Rep q (quiver_of h.quiver)) (v w x y : ℕ) (f : Path → ℕ) : Type 0 where

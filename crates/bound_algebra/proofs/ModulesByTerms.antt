@@ -35,7 +35,7 @@ use Rattle.bound_algebra.specs.PathMatrices.{path_matrix_by, path_matrix, left_p
 use Rattle.bound_algebra.specs.ModulesByTerms.{AreZeroByTerms, IsModuleByTerms, IsLeftModuleByTerms}
 use Rattle.bound_algebra.proofs.TypedPaths.{length-arrows_of, arrows_of-path_of, leads_or_zero, long_acts_by}
 use Rattle.bound_algebra.proofs.Relations.{IsSumOf, sum_over-places, relation_is, relation_listed}
-use Rattle.bound_algebra.proofs.ModulesByEntries.{path_matrix-typed, path_matrix-apart, zeros-at, Runs-listed}
+use Rattle.bound_algebra.proofs.PathMatrices.{path_matrix-typed, path_matrix-apart, zeros-at, Runs-listed, dual_matrix, left_matrix}
 use Rattle.bound_algebra.proofs.ModuleEntries.{entry, entry-apart, entry_kills}
 
 module _ (h : Header) (ok : IsAllowed h) (X : Rep h.field (quiver_of h.quiver)) where
@@ -152,20 +152,8 @@ module _ (h : Header) (ok : IsAllowed h) (X : Rep h.field (quiver_of h.quiver)) 
 
 -- On the left by the dual, whose matrices along paths are the transposed ones.
 module _ (h : Header) (X : Rep h.field (opposite (quiver_of h.quiver))) where
-  left-dual_by : (v w : ℕ) (p : Path) (c : Runs h.quiver v w p ⊎ (Runs h.quiver v w p → ⊥))
-      → path_matrix_by h.quiver (dual X) v w p c ≡ transpose (left_path_matrix_by h.quiver X v w p c)
-  left-dual_by v w p (inl r) =
-      let t = path_of h.quiver v p.arrows w r.leads in
-      ap (along (dual X)) (sym (reverse_reverse t)) ∙ along-reverse X (reverse t)
-  left-dual_by v w p (inr n) = sym (transpose_zeros h.field (X.dim w) (X.dim v))
-
-  -- on the dual
-  pub left-dual : (v w : ℕ) (p : Path) → path_matrix h.quiver (dual X) v w p ≡ transpose (left_path_matrix h.quiver X v w p)
-  unfolding path_matrix left_path_matrix
-  left-dual v w p = left-dual_by v w p (cases_runs h.quiver v w p)
-
   dual_entry : (v w : ℕ) (p : Path) (x y : ℕ) → (path_matrix h.quiver (dual X) v w p).at x y ≡ (left_path_matrix h.quiver X v w p).at y x
-  dual_entry v w p x y = ap (λ (m : Mat h.field (X.dim v) (X.dim w)). m.at x y) (left-dual v w p) ∙ transpose-at (left_path_matrix h.quiver X v w p) x y
+  dual_entry v w p x y = ap (λ (m : Mat h.field (X.dim v) (X.dim w)). m.at x y) (dual_matrix h.quiver X v w p) ∙ transpose-at (left_path_matrix h.quiver X v w p) x y
 
   entries_equal : (v w x y : ℕ) (rel : Relation)
       → sum_over h.field rel.terms (λ t. if ltb (path_length t.path) h.bound then mul h.field t.coef ((left_path_matrix h.quiver X v w t.path).at y x) else 0)
@@ -175,13 +163,13 @@ module _ (h : Header) (X : Rep h.field (opposite (quiver_of h.quiver))) where
   pub terms_of_dual : IsModuleByTerms h (dual X) → IsLeftModuleByTerms h X
   terms_of_dual d v w = record {
     relations = λ rel c x y. entries_equal v w y x rel ∙ (d v w).relations rel c y x;
-    long = λ p hp e. sym (transpose_transpose (left_path_matrix h.quiver X v w p)) ∙ ap transpose (sym (left-dual v w p) ∙ (d v w).long p hp e) ∙ transpose_zeros h.field (X.dim v) (X.dim w);
+    long = λ p hp e. left_matrix h.quiver X v w p ∙ ap transpose ((d v w).long p hp e) ∙ transpose_zeros h.field (X.dim v) (X.dim w);
   }
 
   pub dual_terms : IsLeftModuleByTerms h X → IsModuleByTerms h (dual X)
   dual_terms d v w = record {
     relations = λ rel c x y. sym (entries_equal v w x y rel) ∙ (d v w).relations rel c y x;
-    long = λ p hp e. left-dual v w p ∙ ap transpose ((d v w).long p hp e) ∙ transpose_zeros h.field (X.dim w) (X.dim v);
+    long = λ p hp e. dual_matrix h.quiver X v w p ∙ ap transpose ((d v w).long p hp e) ∙ transpose_zeros h.field (X.dim w) (X.dim v);
   }
 
   module _ (ok : IsAllowed h) where

@@ -11,7 +11,7 @@ use Rattle.linear_algebra.proofs.MatrixLaws.{one-at, transpose_mul, transpose_tr
 use Rattle.linear_algebra.proofs.PartsLaws.{Row-eq, row-at, unit-at, unit_mul}
 use Rattle.quiver_paths.specs.declared.Path.{Path}
 use Rattle.quiver_paths.specs.Quiver.{vertex_count, source, target}
-use Rattle.quiver_paths.specs.Path.{Leads, trivial_path}
+use Rattle.quiver_paths.specs.Path.{IsPath, Leads, trivial_path}
 use Rattle.quiver_paths.proofs.PathLemmas.{Leads-between}
 use Rattle.path_algebra.specs.declared.Header.{Header}
 use Rattle.path_algebra.specs.Allowed.{IsAllowed}
@@ -31,10 +31,12 @@ use Rattle.bound_algebra.specs.NormalWords.{word_count, normal_word, typed_word,
 use Rattle.bound_algebra.specs.AlgebraWords.{product_matrix, algebra_words, arrows_before, opposite_words}
 use Rattle.bound_algebra.proofs.TypedPaths.{arrows_of-after, same_arrows}
 use Rattle.bound_algebra.proofs.ProductMatrices.{word_from_to, product_matrix-at, form_at, along_right, along_left}
-use Rattle.bound_algebra.proofs.WordModules.{right_module, left_module_is}
+use Rattle.bound_algebra.specs.PathMatrices.{left_path_matrix}
+use Rattle.bound_algebra.proofs.PathMatrices.{left_matrix}
+use Rattle.bound_algebra.proofs.WordModules.{right_module, left_module_is, acts_as_form}
 use Rattle.bound_algebra.proofs.WordBasis.{vertex_of, vertex_end, first_word, some_word, word_arrows, place_trivial, place_only, part_is_word, not_trivial, not_trivial_before, word_acts, acts_behind, acts_before}
 
-transpose_combine : {q : Gf} {m n : ℕ} (s : ℕ) (c : ℕ → ℕ) (g : ℕ → Mat q m n) → transpose (combine s c g) ≡ combine s c (λ i. transpose (g i))
+pub transpose_combine : {q : Gf} {m n : ℕ} (s : ℕ) (c : ℕ → ℕ) (g : ℕ → Mat q m n) → transpose (combine s c g) ≡ combine s c (λ i. transpose (g i))
 unfolding combine
 transpose_combine {q} {m} {n} zero c g = transpose_zeros q m n
 transpose_combine (suc s) c g = transpose_sum (combine s c g) (c s ⊙ g s) ∙ ap₂ (λ a b. a ⊞ b) (transpose_combine s c g) (transpose_scale (c s) (g s))
@@ -74,7 +76,7 @@ module _ (h : Header) (ok : IsAllowed h) (words : List Path) (w : AreNormalWords
       sym (transpose_transpose (along X (reverse p))) ∙ ap transpose (sym (ap (along (dual X)) (sym (reverse_reverse p)) ∙ along-reverse X (reverse p)))
   word_at-reversed X v c i (inr l) = sym (transpose_zeros h.field (X.dim c) (X.dim v))
 
-  along_word-reversed : (X : Rep h.field (opposite (quiver_of h.quiver))) (v c i : ℕ) → along_word R X v c i ≡ transpose (along_word W (dual X) c v i)
+  pub along_word-reversed : (X : Rep h.field (opposite (quiver_of h.quiver))) (v c i : ℕ) → along_word R X v c i ≡ transpose (along_word W (dual X) c v i)
   unfolding along_word
   along_word-reversed X v c i = word_at-reversed X v c i (cases_lt i (word_count h ok words w c v))
 
@@ -87,6 +89,17 @@ module _ (h : Header) (ok : IsAllowed h) (words : List Path) (w : AreNormalWords
       ∙ ap transpose (acts_before h ok words w D (IsMod-dual_back (bound_algebra h) X M) v a i l)
       ∙ transpose_combine (word_count h ok words w (source h.quiver a) v) ((arrows_before h ok words w v a).at i) (along_word W D (source h.quiver a) v)
       ∙ combine-same_members (word_count h ok words w (source h.quiver a) v) ((arrows_before h ok words w v a).at i) _ _ (λ j k. sym (along_word-reversed X v (source h.quiver a) j))
+
+  -- on a left module a path acts as the combination of words that its normal form is
+  pub acts_on_left : (X : Rep h.field (opposite (quiver_of h.quiver))) → IsMod (opposite_algebra (bound_algebra h)) X → (v c : ℕ) (p : Path) → IsPath h.quiver p
+      → left_path_matrix h.quiver X v c p ≡ combine (word_count h ok words w v c) (λ j. normal_form h ok words w p (normal_word h ok words w v c j)) (along_word R X c v)
+  acts_on_left X M v c p hp =
+      let D : Rep h.field (quiver_of h.quiver) = dual X in
+      let form = λ (j : ℕ). normal_form h ok words w p (normal_word h ok words w v c j) in
+      left_matrix h.quiver X v c p
+      ∙ ap transpose (acts_as_form h ok words w D (IsMod-dual_back (bound_algebra h) X M) v c p hp)
+      ∙ transpose_combine (word_count h ok words w v c) form (along_word W D v c)
+      ∙ combine-same_members (word_count h ok words w v c) form _ _ (λ j k. sym (along_word-reversed X c v j))
 
   word_at-left : (X : Rep h.field (opposite (quiver_of h.quiver))) (v c i : ℕ) (d : (i < word_count h ok words w c v) ⊎ (word_count h ok words w c v ≤ i)) (l : i < word_count h ok words w c v) → word_at R X v c i d ≡ along X (reverse (typed_word h ok words w c v i l))
   word_at-left X v c i (inl k) l = ap (λ p. along X (reverse p)) (same_arrows (typed_word h ok words w c v i k) (typed_word h ok words w c v i l) (word_arrows h ok words w c v i k ∙ sym (word_arrows h ok words w c v i l)))
@@ -121,6 +134,10 @@ module _ (h : Header) (ok : IsAllowed h) (words : List Path) (w : AreNormalWords
       let found = part_is_word h ok words w p v (target h.quiver a) i l [] (a ∷ []) refl (subst (Leads h.quiver v (arrows_of p)) (sym cut.2.1) cut.1) (cut.2.0, refl, refl) whole in
       record { place = found.0; below = found.1; is = found.2 }
 
+  found_word : (v c : ℕ) (p : TypedPath (opposite (quiver_of h.quiver)) v c)
+      → (i : ℕ) × (l : i < word_count h ok words w c v) × (typed_word h ok words w c v i l ≡ reverse p) → IsWord R v c p
+  found_word v c p f = record { place = f.0; below = f.1; is = ap (λ (z : TypedPath (quiver_of h.quiver) c v). reverse z) f.2 ∙ reverse_reverse p }
+
   without_last_left : (v a i : ℕ) (l : i < word_count h ok words w (source h.quiver a) v) (p : TypedPath (opposite (quiver_of h.quiver)) v (target h.quiver a)) → reverse (typed_word h ok words w (source h.quiver a) v i l) ≡ then a p
       → IsWord R v (target h.quiver a) p
   without_last_left v a i l p e =
@@ -129,7 +146,7 @@ module _ (h : Header) (ok : IsAllowed h) (words : List Path) (w : AreNormalWords
       let whole : (normal_word h ok words w (source h.quiver a) v i).arrows ≡ a ∷ arrows_of r = sym (word_arrows h ok words w (source h.quiver a) v i l) ∙ ap (λ (z : TypedPath (quiver_of h.quiver) (source h.quiver a) v). arrows_of z) is ∙ arrows_of-after a r in
       let leads : Leads h.quiver (source h.quiver a) (a ∷ arrows_of r) v = subst (λ xs. Leads h.quiver (source h.quiver a) xs v) whole (word_from_to h ok words w (source h.quiver a) v i l).leads in
       let found = part_is_word h ok words w r (source h.quiver a) v i l (a ∷ []) [] (leads.0, refl, refl) leads.2 refl (whole ∙ ap (λ xs. a ∷ xs) (sym (append-nil (arrows_of r)))) in
-      record { place = found.0; below = found.1; is = ap (λ (z : TypedPath (quiver_of h.quiver) (target h.quiver a) v). reverse z) found.2 ∙ reverse_reverse p }
+      found_word v (target h.quiver a) p found
 
   -- ---- the two sides
   pub right_basis : IsWordBasis (bound_algebra h) W

@@ -34,7 +34,7 @@ use Rattle.bound_algebra.specs.NormalWords.{word_count, normal_word, typed_word,
 use Rattle.bound_algebra.specs.AlgebraWords.{product_matrix, algebra_words}
 use Rattle.bound_algebra.proofs.TypedPaths.{arrows_of-path_of, arrows_of-after, same_arrows}
 use Rattle.bound_algebra.proofs.Forms.{form-trivial}
-use Rattle.bound_algebra.proofs.ModulesByEntries.{path_matrix-typed}
+use Rattle.bound_algebra.proofs.PathMatrices.{path_matrix-typed}
 use Rattle.bound_algebra.proofs.ProductMatrices.{word_path, word_from_to, ascending_between, product_matrix-at}
 use Rattle.bound_algebra.proofs.WordModules.{along_word-is, acts_as_form}
 

@@ -34,7 +34,8 @@ use Rattle.bound_algebra.specs.AlgebraWords.{algebra_words, arrows_before, oppos
 use Rattle.bound_algebra.proofs.TypedPaths.{arrows_of-path_of}
 use Rattle.bound_algebra.proofs.Functionals.{value_of_form}
 use Rattle.bound_algebra.proofs.Forms.{sum_over-filter, form_between, form_between-meeting, kills}
-use Rattle.bound_algebra.proofs.ModulesByEntries.{IsEntry, module_by_entries, path_matrix-typed}
+use Rattle.bound_algebra.proofs.ModulesByEntries.{IsEntry, module_by_entries}
+use Rattle.bound_algebra.proofs.PathMatrices.{path_matrix-typed}
 use Rattle.bound_algebra.proofs.ModuleEntries.{entry, entry-apart, entry_kills}
 use Rattle.bound_algebra.proofs.ProductMatrices.{word_path, word_from_to, product_matrix-at, along_right, along_left}
 

@@ -1,0 +1,2 @@
+pub mod PlacedWords
+pub mod TableRows

@@ -1,0 +1,2 @@
+pub mod PlacedEntries
+pub mod TableSides
