@@ -1,15 +1,15 @@
 -- The normal form of a path is a combination of the words with the ends of the path alone; so each row of a product matrix says which combination
 -- of words the product is congruent to.
-use Rattle.std.proofs.Common.{ℕ, ◌≡◌, ◌<◌, ◌⊎◌, inl, inr, false, List, ◌∷◌, length, map, get_or, refl, sym, ap, ◌∙◌, subst}
+use Rattle.std.proofs.Common.{ℕ, ◌≡◌, ◌<◌, ◌⊎◌, inl, inr, false, List, ◌∷◌, map, refl, sym, ap, ◌∙◌, subst}
 use Rattle.std.specs.Prelude.{Contains}
-use Rattle.std.proofs.lemmas.Bool.{cases_Bool, both_ways, and_parts, and_from, eqb-true, eq-eqb}
+use Rattle.std.proofs.lemmas.Bool.{cases_Bool, and_parts, and_from, eqb-true, eq-eqb}
 use Rattle.std.proofs.lemmas.List.{append-nil, get_or-map, length-map}
 use Rattle.linear_algebra.specs.Field.{mul, order, sub}
-use Rattle.linear_algebra.specs.FieldLaws.{order-pos, mul_zero, mul_one}
+use Rattle.linear_algebra.specs.FieldLaws.{mul_zero, mul_one}
 use Rattle.linear_algebra.specs.Rows.{list_of}
 use Rattle.linear_algebra.proofs.Rows.{list_of-is}
 use Rattle.quiver_paths.specs.declared.Path.{Path}
-use Rattle.quiver_paths.specs.Quiver.{vertex_count, source, target}
+use Rattle.quiver_paths.specs.Quiver.{source, target}
 use Rattle.quiver_paths.specs.Path.{IsPath, concat, trivial_path, arrow_path}
 use Rattle.quiver_paths.specs.PathOrder.{IsSmaller}
 use Rattle.quiver_paths.proofs.ListLemmas.{Contains-filter, Contains-from_filter, AllPairs-sieve}

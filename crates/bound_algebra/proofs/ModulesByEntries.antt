@@ -1,15 +1,14 @@
 -- What is a module over the algebra of a header: the entries of the matrices of paths take the ideal to zero.
-use Rattle.std.proofs.Common.{ℕ, zero, ◌≡◌, ◌<◌, ◌⊎◌, inl, inr, List, length, refl, sym, ap, ap₂, ◌∙◌, subst, arith}
+use Rattle.std.proofs.Common.{ℕ, zero, ◌≡◌, ◌<◌, inl, inr, List, length, refl, sym, ap, ap₂, ◌∙◌, subst, arith}
 use Rattle.std.specs.Prelude.{Contains}
 use Rattle.std.proofs.lemmas.Bool.{cases_lt}
 use Rattle.std.proofs.lemmas.List.{append-nil}
 use Rattle.std.proofs.lemmas.List.Elements.{All-contains, Contains-get_or}
 use Rattle.linear_algebra.specs.Field.{Gf, mul}
 use Rattle.linear_algebra.specs.Sums.{sum_to, sum-same}
-use Rattle.linear_algebra.specs.Matrix.{Mat-eq_below, zeros}
+use Rattle.linear_algebra.specs.Matrix.{Mat-eq_below}
 use Rattle.linear_algebra.specs.Families.{combine}
 use Rattle.linear_algebra.proofs.LinearMaps.{combine-at}
-use Rattle.quiver_paths.specs.declared.Quiver.{Quiver}
 use Rattle.quiver_paths.specs.declared.Path.{Path}
 use Rattle.quiver_paths.specs.Quiver.{vertex_count}
 use Rattle.quiver_paths.specs.Path.{IsPath, Leads, trivial_path}
@@ -22,10 +21,9 @@ use Rattle.path_algebra.proofs.Between.{composite, Path-eq}
 use Rattle.path_algebra.proofs.IdealActs.{parallel_terms}
 use Rattle.representations.specs.Quiver.{Relation as TypedRelation, Path as TypedPath}
 use Rattle.representations.specs.Rep.{Rep, along, value_of_relation, IsMod}
-use Rattle.bound_algebra.specs.TypedPaths.{quiver_of, arrows_of, path_of, Runs, cases_runs, listed}
+use Rattle.bound_algebra.specs.TypedPaths.{quiver_of, arrows_of, listed}
 use Rattle.bound_algebra.specs.BoundAlgebra.{term_at, relation_at, relation_of, bound_algebra}
-use Rattle.bound_algebra.specs.PathMatrices.{path_matrix_by, path_matrix}
-use Rattle.bound_algebra.proofs.TypedPaths.{length-arrows_of, same_arrows, arrows_of-path_of, leads_or_zero}
+use Rattle.bound_algebra.proofs.TypedPaths.{length-arrows_of, leads_or_zero}
 use Rattle.bound_algebra.proofs.Relations.{IsSumOf, sum_over-places, relation_is, relation_listed}
 use Rattle.bound_algebra.proofs.Functionals.{Kills}
 use Rattle.bound_algebra.proofs.PathMatrices.{zeros-at}

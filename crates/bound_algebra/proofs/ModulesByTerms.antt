@@ -1,5 +1,5 @@
 -- Terms of the bound's length or more may be dropped or kept.
-use Rattle.std.proofs.Common.{ℕ, zero, ◌≡◌, ◌<◌, ◌≤◌, ◌⊎◌, inl, inr, length, ltb, if◌then◌else◌, refl, sym, ap, ap₂, ◌∙◌, subst, arith}
+use Rattle.std.proofs.Common.{ℕ, zero, ◌≡◌, ◌<◌, ◌≤◌, inl, inr, length, ltb, if◌then◌else◌, refl, sym, ap, ap₂, ◌∙◌, subst, arith}
 use Rattle.std.specs.Prelude.{Contains}
 use Rattle.std.proofs.lemmas.Bool.{cases_lt, cases_eq, cond-true, cond-false, lt-ltb, le-ltb}
 use Rattle.std.proofs.lemmas.List.{append-nil}
@@ -10,7 +10,7 @@ use Rattle.linear_algebra.specs.Sums.{sum_to, sum-same}
 use Rattle.linear_algebra.specs.Matrix.{Mat, Mat-eq_below, zeros, transpose}
 use Rattle.linear_algebra.specs.Families.{combine}
 use Rattle.linear_algebra.proofs.LinearMaps.{combine-at}
-use Rattle.linear_algebra.proofs.MatrixLaws.{transpose-at, transpose_transpose, transpose_zeros}
+use Rattle.linear_algebra.proofs.MatrixLaws.{transpose-at, transpose_zeros}
 use Rattle.quiver_paths.specs.declared.Path.{Path}
 use Rattle.quiver_paths.specs.Quiver.{vertex_count}
 use Rattle.quiver_paths.specs.Path.{IsPath, path_length, trivial_path}
@@ -24,15 +24,15 @@ use Rattle.path_algebra.proofs.Between.{composite, Path-eq}
 use Rattle.path_algebra.proofs.SumsOver.{sum_over-same, sum_over-zeros}
 use Rattle.path_algebra.proofs.IdealActs.{parallel_terms}
 use Rattle.representations.specs.Quiver.{Relation as TypedRelation, Path as TypedPath, path_length as typed_length}
-use Rattle.representations.specs.Quiver.{reverse, opposite, opposite_algebra}
+use Rattle.representations.specs.Quiver.{opposite, opposite_algebra}
 use Rattle.representations.specs.Dual.{dual}
-use Rattle.representations.proofs.Duals.{dual_dual, along-reverse, reverse_reverse, IsMod-dual}
+use Rattle.representations.proofs.Duals.{dual_dual, IsMod-dual}
 use Rattle.projectives.proofs.TwoSided.{IsMod-dual_back}
 use Rattle.representations.specs.Rep.{Rep, along, value_of_relation, IsMod}
 use Rattle.bound_algebra.specs.TypedPaths.{quiver_of, arrows_of, path_of, Runs, cases_runs, listed}
 use Rattle.bound_algebra.specs.BoundAlgebra.{term_at, relation_at, relation_of, bound_algebra}
-use Rattle.bound_algebra.specs.PathMatrices.{path_matrix_by, path_matrix, left_path_matrix_by, left_path_matrix}
-use Rattle.bound_algebra.specs.ModulesByTerms.{AreZeroByTerms, IsModuleByTerms, IsLeftModuleByTerms}
+use Rattle.bound_algebra.specs.PathMatrices.{path_matrix, left_path_matrix}
+use Rattle.bound_algebra.specs.ModulesByTerms.{IsModuleByTerms, IsLeftModuleByTerms}
 use Rattle.bound_algebra.proofs.TypedPaths.{length-arrows_of, arrows_of-path_of, leads_or_zero, long_acts_by}
 use Rattle.bound_algebra.proofs.Relations.{IsSumOf, sum_over-places, relation_is, relation_listed}
 use Rattle.bound_algebra.proofs.PathMatrices.{path_matrix-typed, path_matrix-apart, zeros-at, Runs-listed, dual_matrix, left_matrix}

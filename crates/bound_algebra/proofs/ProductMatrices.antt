@@ -26,11 +26,10 @@ use Rattle.representations.specs.Quiver.{Path as TypedPath, trivial, then, rever
 use Rattle.representations.specs.Rep.{along}
 use Rattle.representations.proofs.Paths.{along-trivial, along-then, along_after}
 use Rattle.projectives.specs.Words.{projective}
-use Rattle.projectives.specs.TwoSided.{reversed}
 use Rattle.bound_algebra.specs.TypedPaths.{quiver_of, arrows_of, Runs, listed}
 use Rattle.bound_algebra.specs.WordLists.{is_between, words_between}
-use Rattle.bound_algebra.specs.NormalWords.{word_count, normal_word, word_runs, none_start}
-use Rattle.bound_algebra.specs.AlgebraWords.{product_matrix, algebra_words, arrows_before, opposite_words}
+use Rattle.bound_algebra.specs.NormalWords.{word_count, normal_word, word_runs}
+use Rattle.bound_algebra.specs.AlgebraWords.{product_matrix, algebra_words, opposite_words}
 use Rattle.bound_algebra.proofs.Forms.{product_of_forms}
 
 -- where arrows lead to a vertex they start at one

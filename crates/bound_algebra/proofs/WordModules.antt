@@ -24,13 +24,12 @@ use Rattle.representations.specs.Rep.{Rep, along, IsMod}
 use Rattle.representations.specs.Dual.{dual}
 use Rattle.representations.proofs.Duals.{dual_dual, along-reverse, IsMod-dual, reverse_reverse}
 use Rattle.projectives.specs.Words.{projective, word_at, along_word}
-use Rattle.projectives.specs.TwoSided.{reversed}
 use Rattle.bound_algebra.specs.TypedPaths.{quiver_of, arrows_of, listed}
 use Rattle.bound_algebra.specs.BoundAlgebra.{bound_algebra}
 use Rattle.bound_algebra.specs.PathMatrices.{path_matrix}
 use Rattle.bound_algebra.specs.WordLists.{is_between, words_between}
-use Rattle.bound_algebra.specs.NormalWords.{word_count, normal_word, typed_word, none_start}
-use Rattle.bound_algebra.specs.AlgebraWords.{algebra_words, arrows_before, opposite_words}
+use Rattle.bound_algebra.specs.NormalWords.{word_count, normal_word, typed_word}
+use Rattle.bound_algebra.specs.AlgebraWords.{algebra_words, opposite_words}
 use Rattle.bound_algebra.proofs.TypedPaths.{arrows_of-path_of}
 use Rattle.bound_algebra.proofs.Functionals.{value_of_form}
 use Rattle.bound_algebra.proofs.Forms.{sum_over-filter, form_between, form_between-meeting, kills}

@@ -1,5 +1,5 @@
 -- What a table's calls answer, as the words and entries of the two sides.
-use Rattle.std.proofs.Common.{ℕ, zero, ◌≡◌, ◌<◌, ◌≤◌, inl, inr, false, List, ◌∷◌, length, get_or, refl, sym, ap, ◌∙◌, subst, arith}
+use Rattle.std.proofs.Common.{ℕ, zero, ◌≡◌, ◌<◌, inl, inr, false, List, ◌∷◌, length, get_or, refl, sym, ap, ◌∙◌, subst, arith}
 use Rattle.std.specs.Prelude.{Contains}
 use Rattle.std.proofs.lemmas.Bool.{cases_lt, cases_Bool, and_parts, eqb-true}
 use Rattle.std.proofs.lemmas.List.{append-nil, get_or-map, get_or_past}
@@ -27,16 +27,16 @@ use Rattle.alg_table.specs.TableView.{IsTable}
 use Rattle.alg_table.specs.WordPlaces.{ArePlacesBetween, AreWordsAt}
 use Rattle.alg_table.specs.NormalForm.{IsNormalForm, IsProduct}
 use Rattle.representations.specs.Quiver.{reverse, opposite, opposite_algebra}
-use Rattle.representations.specs.Rep.{Rep, along, IsMod}
+use Rattle.representations.specs.Rep.{Rep, IsMod}
 use Rattle.representations.proofs.Duals.{reverse_reverse}
 use Rattle.projectives.specs.Words.{along_word, projective}
 use Rattle.projectives.specs.TwoSided.{other}
 use Rattle.bound_algebra.specs.TypedPaths.{quiver_of, path_of, listed, arrows_of, Runs}
 use Rattle.bound_algebra.specs.BoundAlgebra.{bound_algebra}
 use Rattle.bound_algebra.specs.PathMatrices.{path_matrix, left_path_matrix}
-use Rattle.bound_algebra.specs.WordLists.{is_between, words_between}
+use Rattle.bound_algebra.specs.WordLists.{is_between}
 use Rattle.bound_algebra.specs.NormalWords.{word_count, normal_word}
-use Rattle.bound_algebra.specs.AlgebraWords.{algebra_words, opposite_words, arrows_behind, arrows_before}
+use Rattle.bound_algebra.specs.AlgebraWords.{algebra_words, opposite_words}
 use Rattle.bound_algebra.proofs.TypedPaths.{arrows_of-path_of}
 use Rattle.bound_algebra.proofs.PathMatrices.{path_matrix-typed}
 use Rattle.bound_algebra.proofs.ProductMatrices.{path_from_runs, word_path, word_from_to, product_matrix-at, along_right}
