@@ -24,15 +24,15 @@ module _ (h : Header) (ok : IsAllowed h) (words : List Path) (w : AreNormalWords
       made h.field (word_count h ok words w b c) (word_count h ok words w b' c')
       (λ i j. normal_form h ok words w (composite u (normal_word h ok words w b c i) v) (normal_word h ok words w b' c' j))
 
-  -- the words from v, followed by the arrow a
+  -- Row i: the i-th word from v to the source of the arrow a, and then a.
   abbrev pub arrows_behind : (v a : ℕ) → Mat h.field (word_count h ok words w v (source h.quiver a)) (word_count h ok words w v (target h.quiver a))
   arrows_behind v a = product_matrix v (source h.quiver a) v (target h.quiver a) (trivial_path v) (arrow_path h.quiver a)
 
-  -- the words to v, after the arrow a
+  -- Row i: the arrow a, and then the i-th word from its target to v.
   abbrev pub arrows_before : (v a : ℕ) → Mat h.field (word_count h ok words w (target h.quiver a) v) (word_count h ok words w (source h.quiver a) v)
   arrows_before v a = product_matrix (target h.quiver a) v (source h.quiver a) v (arrow_path h.quiver a) (trivial_path v)
 
-  -- the words as words of the quiver, and reversed as words of the opposite quiver
+  -- The words of the algebra; and reversed the words of the opposite algebra, of which those from v to w are the words from w to v.
   abbrev pub algebra_words : Words h.field (quiver_of h.quiver)
   algebra_words = record { count = word_count h ok words w; word = typed_word h ok words w; act = arrows_behind; past = none_end h ok words w }
 

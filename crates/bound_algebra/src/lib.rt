@@ -2,6 +2,7 @@
 //! a basis of it on both sides. There is no code here but law functions: the body is empty, and the contract is the law.
 #![tactic(auto)]
 
+pub mod algebra;
 pub mod modules;
 pub mod sequences;
 pub mod words;
