@@ -32,8 +32,8 @@ use Rattle.bound_algebra.specs.NormalWords.{word_count, normal_word}
 use Rattle.bound_algebra.specs.AlgebraWords.{product_matrix, arrows_behind, arrows_before}
 use Rattle.bound_algebra.proofs.Functionals.{value_of_form}
 use Rattle.bound_algebra.proofs.Forms.{form_between, form_between-meeting, form_between-apart, kills}
-use Rattle.bound_algebra.proofs.ProductMatrices.{word_path, word_from_to, product_matrix-at}
-use Rattle.bound_algebra.proofs.WordBasis.{vertex_of, vertex_end, arrow_end, arrow_start}
+use Rattle.bound_algebra.proofs.ProductMatrices.{vertex_start, vertex_end, word_path, word_from_to, product_matrix-at}
+use Rattle.bound_algebra.proofs.WordBasis.{arrow_end, arrow_start}
 
 module _ (h : Header) (ok : IsAllowed h) (words : List Path) (w : AreNormalWords h words) where
   abbrev form : Path → Path → ℕ
@@ -131,7 +131,7 @@ module _ (h : Header) (ok : IsAllowed h) (words : List Path) (w : AreNormalWords
       subst (λ p. Congruent h (path_element h.bound p)
       (combination h.field h.bound (list_of (word_count h ok words w v (target h.quiver a)) ((arrows_behind h ok words w v a).at i)) (words_between words v (target h.quiver a))))
       (Path-eq (composite (trivial_path v) x (arrow_path h.quiver a)) (concat x (arrow_path h.quiver a)) (sym (word_from_to h ok words w v (source h.quiver a) i l).starts) refl refl)
-      (product_congruent v (source h.quiver a) v (target h.quiver a) (trivial_path v) (arrow_path h.quiver a) (IsPath-trivial h.quiver v (vertex_of h ok words w v (source h.quiver a) i l)) arrow
+      (product_congruent v (source h.quiver a) v (target h.quiver a) (trivial_path v) (arrow_path h.quiver a) (IsPath-trivial h.quiver v (vertex_start h ok words w v (source h.quiver a) i l)) arrow
       (record { starts = refl; ends = refl; leads = refl }) (record { starts = refl; ends = refl; leads = arrow.leads }) i l)
 
   pub before_congruent : (v a i : ℕ) → i < word_count h ok words w (target h.quiver a) v

@@ -56,6 +56,12 @@ module _ (h : Header) (ok : IsAllowed h) (words : List Path) (w : AreNormalWords
   pub word_from_to : (b c i : ℕ) → i < word_count h ok words w b c → Runs h.quiver b c (normal_word h ok words w b c i)
   word_from_to b c i l = word_runs h ok words w b c (normal_word h ok words w b c i) (word_listed (words_between words b c) i l)
 
+  pub vertex_start : (b c i : ℕ) → i < word_count h ok words w b c → b < vertex_count h.quiver
+  vertex_start b c i l = subst (λ z. z < vertex_count h.quiver) (word_from_to b c i l).starts (word_path b c i l).starts
+
+  pub vertex_end : (b c i : ℕ) → i < word_count h ok words w b c → c < vertex_count h.quiver
+  vertex_end b c i l = subst (λ z. z < vertex_count h.quiver) (word_from_to b c i l).ends (IsPath-end h.quiver (normal_word h ok words w b c i) ok.quiver.ends (word_path b c i l))
+
   pub product_matrix-at : (b c b' c' : ℕ) (u v : Path) (i j : ℕ) → i < word_count h ok words w b c → j < word_count h ok words w b' c'
       → (product_matrix h ok words w b c b' c' u v).at i j ≡ normal_form h ok words w (composite u (normal_word h ok words w b c i) v) (normal_word h ok words w b' c' j)
   unfolding product_matrix

@@ -30,11 +30,11 @@ use Rattle.bound_algebra.specs.BoundAlgebra.{bound_algebra}
 use Rattle.bound_algebra.specs.NormalWords.{word_count, normal_word, typed_word, none_start}
 use Rattle.bound_algebra.specs.AlgebraWords.{product_matrix, algebra_words, arrows_before, opposite_words}
 use Rattle.bound_algebra.proofs.TypedPaths.{arrows_of-after, same_arrows}
-use Rattle.bound_algebra.proofs.ProductMatrices.{word_from_to, product_matrix-at, form_at, along_right, along_left}
+use Rattle.bound_algebra.proofs.ProductMatrices.{vertex_start, vertex_end, word_from_to, product_matrix-at, form_at, along_right, along_left}
 use Rattle.bound_algebra.specs.PathMatrices.{left_path_matrix}
 use Rattle.bound_algebra.proofs.PathMatrices.{left_matrix}
 use Rattle.bound_algebra.proofs.WordModules.{right_module, left_module_is, acts_as_form}
-use Rattle.bound_algebra.proofs.WordBasis.{vertex_of, vertex_end, first_word, some_word, word_arrows, place_trivial, place_only, part_is_word, not_trivial, not_trivial_before, word_acts, acts_behind, acts_before}
+use Rattle.bound_algebra.proofs.WordBasis.{first_word, some_word, word_arrows, place_trivial, place_only, part_is_word, not_trivial, not_trivial_before, word_acts, acts_behind, acts_before}
 
 pub transpose_combine : {q : Gf} {m n : ℕ} (s : ℕ) (c : ℕ → ℕ) (g : ℕ → Mat q m n) → transpose (combine s c g) ≡ combine s c (λ i. transpose (g i))
 unfolding combine
@@ -67,7 +67,7 @@ module _ (h : Header) (ok : IsAllowed h) (words : List Path) (w : AreNormalWords
       ∙ sym (unit-at h.field (word_count h ok words w v c) i j ∙ one-at h.field (word_count h ok words w v c) i j l))
     where
       v_in : v < vertex_count h.quiver
-      v_in = vertex_of h ok words w v c i l
+      v_in = vertex_start h ok words w v c i l
 
   -- reversed
   word_at-reversed : (X : Rep h.field (opposite (quiver_of h.quiver))) (v c i : ℕ) (d : (i < word_count h ok words w c v) ⊎ (word_count h ok words w c v ≤ i)) → word_at R X v c i d ≡ transpose (word_at W (dual X) c v i d)

@@ -35,7 +35,7 @@ use Rattle.bound_algebra.specs.AlgebraWords.{product_matrix, algebra_words}
 use Rattle.bound_algebra.proofs.TypedPaths.{arrows_of-path_of, arrows_of-after, same_arrows}
 use Rattle.bound_algebra.proofs.Forms.{form-trivial}
 use Rattle.bound_algebra.proofs.PathMatrices.{path_matrix-typed}
-use Rattle.bound_algebra.proofs.ProductMatrices.{word_path, word_from_to, ascending_between, product_matrix-at}
+use Rattle.bound_algebra.proofs.ProductMatrices.{vertex_start, word_path, word_from_to, ascending_between, product_matrix-at}
 use Rattle.bound_algebra.proofs.WordModules.{along_word-is, acts_as_form}
 
 module _ (h : Header) (ok : IsAllowed h) (words : List Path) (w : AreNormalWords h words) where
@@ -63,12 +63,6 @@ module _ (h : Header) (ok : IsAllowed h) (words : List Path) (w : AreNormalWords
   pub first_word : (v : ℕ) → v < vertex_count h.quiver → normal_word h ok words w v v zero ≡ trivial_path v
   first_word v l = first_is v (words_between words v v) (trivial_listed v l) (ascending_between h ok words w v v) (word_runs h ok words w v v)
 
-  pub vertex_of : (b c i : ℕ) → i < word_count h ok words w b c → b < vertex_count h.quiver
-  vertex_of b c i l = subst (λ z. z < vertex_count h.quiver) (word_from_to h ok words w b c i l).starts (word_path h ok words w b c i l).starts
-
-  pub vertex_end : (b c i : ℕ) → i < word_count h ok words w b c → c < vertex_count h.quiver
-  vertex_end b c i l = subst (λ z. z < vertex_count h.quiver) (word_from_to h ok words w b c i l).ends (IsPath-end h.quiver (normal_word h ok words w b c i) ok.quiver.ends (word_path h ok words w b c i l))
-
   pub some_word : (v : ℕ) → v < vertex_count h.quiver → 0 < word_count h ok words w v v
   some_word v l = let at = at_from_Contains (words_between words v v) (trivial_path v) (trivial_listed v l) in omega (arith, at.1)
 
@@ -76,11 +70,11 @@ module _ (h : Header) (ok : IsAllowed h) (words : List Path) (w : AreNormalWords
   word_arrows b c i l = arrows_of-path_of h.quiver b (normal_word h ok words w b c i).arrows c _
 
   pub place_trivial : (v : ℕ) (l : 0 < word_count h ok words w v v) → typed_word h ok words w v v zero l ≡ trivial
-  place_trivial v l = same_arrows (typed_word h ok words w v v zero l) trivial (word_arrows v v zero l ∙ ap (λ (p : Path). p.arrows) (first_word v (vertex_of v v zero l)))
+  place_trivial v l = same_arrows (typed_word h ok words w v v zero l) trivial (word_arrows v v zero l ∙ ap (λ (p : Path). p.arrows) (first_word v (vertex_start h ok words w v v zero l)))
 
   pub place_only : (v i : ℕ) (l : i < word_count h ok words w v v) → typed_word h ok words w v v i l ≡ trivial → i ≡ zero
   place_only v i l e =
-      let v_in = vertex_of v v i l in
+      let v_in = vertex_start h ok words w v v i l in
       let r = word_from_to h ok words w v v i l in
       let same : normal_word h ok words w v v i ≡ trivial_path v = Path-eq _ (trivial_path v) r.starts r.ends (sym (word_arrows v v i l) ∙ ap (λ (p : TypedPath (quiver_of h.quiver) v v). arrows_of p) e) in
       word_once (words_between words v v) (ascending_between h ok words w v v) i zero l (some_word v v_in) (same ∙ sym (first_word v v_in))
@@ -103,7 +97,7 @@ module _ (h : Header) (ok : IsAllowed h) (words : List Path) (w : AreNormalWords
       → (normal_word h ok words w d e i).arrows ≡ us ++ (arrows_of p ++ vs) → (i : ℕ) × (k : i < word_count h ok words w b c) × (typed_word h ok words w b c i k ≡ p)
   part_is_word {b} {c} p d e i l us vs lu lp lv whole =
       let r = word_from_to h ok words w d e i l in
-      let d_in = vertex_of d e i l in
+      let d_in = vertex_start h ok words w d e i l in
       let hu : IsPath h.quiver (record { start = d; end = b; arrows = us }) = record { starts = d_in; leads = lu } in
       let b_in = IsPath-end h.quiver (record { start = d; end = b; arrows = us }) ok.quiver.ends hu in
       let hp : IsPath h.quiver (listed p) = record { starts = b_in; leads = lp } in
@@ -142,7 +136,7 @@ module _ (h : Header) (ok : IsAllowed h) (words : List Path) (w : AreNormalWords
   unfolding behind
   behind_is b a i l =
       let r = word_from_to h ok words w b (source h.quiver a) i l in
-      IsPath-concat h.quiver (trivial_path b) _ (IsPath-trivial h.quiver b (vertex_of b (source h.quiver a) i l))
+      IsPath-concat h.quiver (trivial_path b) _ (IsPath-trivial h.quiver b (vertex_start h ok words w b (source h.quiver a) i l))
       (IsPath-concat h.quiver (normal_word h ok words w b (source h.quiver a) i) (arrow_path h.quiver a) (word_path h ok words w b (source h.quiver a) i l) (IsPath-arrow h.quiver a ok.quiver.ends (arrow_end b a i l)) r.ends)
       (sym r.starts)
 
@@ -161,7 +155,7 @@ module _ (h : Header) (ok : IsAllowed h) (words : List Path) (w : AreNormalWords
   not_trivial v a i e = elim (cases_lt i (word_count h ok words w v (source h.quiver a))) [
     | inr past ↦ (product_matrix h ok words w v (source h.quiver a) v (target h.quiver a) (trivial_path v) (arrow_path h.quiver a)).fits.below i zero past
     | inl l ↦
-        let v_in = vertex_of v (source h.quiver a) i l in
+        let v_in = vertex_start h ok words w v (source h.quiver a) i l in
         let some : 0 < word_count h ok words w v (target h.quiver a) = subst (λ z. 0 < word_count h ok words w v z) (sym e) (some_word v v_in) in
         product_matrix-at h ok words w v (source h.quiver a) v (target h.quiver a) (trivial_path v) (arrow_path h.quiver a) i zero l some
         ∙ ap (λ z. normal_form h ok words w (behind v a i) (normal_word h ok words w v z zero)) e

@@ -36,15 +36,9 @@ use Rattle.bound_algebra.proofs.Forms.{sum_over-filter, form_between, form_betwe
 use Rattle.bound_algebra.proofs.ModulesByEntries.{IsEntry, module_by_entries}
 use Rattle.bound_algebra.proofs.PathMatrices.{path_matrix-typed}
 use Rattle.bound_algebra.proofs.ModuleEntries.{entry, entry-apart, entry_kills}
-use Rattle.bound_algebra.proofs.ProductMatrices.{word_path, word_from_to, product_matrix-at, along_right, along_left}
+use Rattle.bound_algebra.proofs.ProductMatrices.{vertex_start, vertex_end, word_path, word_from_to, product_matrix-at, along_right, along_left}
 
 module _ (h : Header) (ok : IsAllowed h) (words : List Path) (w : AreNormalWords h words) where
-  vertex_start : (b c i : ℕ) → i < word_count h ok words w b c → b < vertex_count h.quiver
-  vertex_start b c i l = subst (λ z. z < vertex_count h.quiver) (word_from_to h ok words w b c i l).starts (word_path h ok words w b c i l).starts
-
-  vertex_end : (b c i : ℕ) → i < word_count h ok words w b c → c < vertex_count h.quiver
-  vertex_end b c i l = subst (λ z. z < vertex_count h.quiver) (word_from_to h ok words w b c i l).ends (IsPath-end h.quiver (normal_word h ok words w b c i) ok.quiver.ends (word_path h ok words w b c i l))
-
   pub right_module : (v : ℕ) → IsMod (bound_algebra h) (projective (algebra_words h ok words w) v)
   right_module v = module_by_entries h ok (projective (algebra_words h ok words w) v) (λ b c x y l m. entries b c x y l m)
     where
@@ -54,7 +48,7 @@ module _ (h : Header) (ok : IsAllowed h) (words : List Path) (w : AreNormalWords
           let r = normal_word h ok words w v c y in
           let hu = word_path h ok words w v b x l in
           let ru = word_from_to h ok words w v b x l in
-          let hc = IsPath-trivial h.quiver c (vertex_end v c y m) in (
+          let hc = IsPath-trivial h.quiver c (vertex_end h ok words w v c y m) in (
             form_between h ok words w u (trivial_path c) hu hc r,
             record {
               kills = kills h ok words w u (trivial_path c) hu hc r;
@@ -81,7 +75,7 @@ module _ (h : Header) (ok : IsAllowed h) (words : List Path) (w : AreNormalWords
           let r = normal_word h ok words w b v x in
           let hu = word_path h ok words w c v y m in
           let ru = word_from_to h ok words w c v y m in
-          let hb = IsPath-trivial h.quiver b (vertex_start b v x l) in (
+          let hb = IsPath-trivial h.quiver b (vertex_start h ok words w b v x l) in (
             form_between h ok words w (trivial_path b) u hb hu r,
             record {
               kills = kills h ok words w (trivial_path b) u hb hu r;
