@@ -10,9 +10,8 @@ use Rattle.linear_algebra.specs.Families.{combine}
 use Rattle.linear_algebra.proofs.LinearMaps.{combine-at}
 use Rattle.linear_algebra.proofs.MatrixLaws.{transpose-at}
 use Rattle.quiver_paths.specs.declared.Path.{Path}
-use Rattle.quiver_paths.specs.Quiver.{vertex_count}
 use Rattle.quiver_paths.specs.Path.{IsPath, trivial_path}
-use Rattle.quiver_paths.proofs.PathLemmas.{IsPath-trivial, IsPath-end}
+use Rattle.quiver_paths.proofs.PathLemmas.{IsPath-trivial}
 use Rattle.path_algebra.specs.declared.Header.{Header}
 use Rattle.path_algebra.specs.Allowed.{IsAllowed}
 use Rattle.path_algebra.specs.Words.{AreNormalWords}
