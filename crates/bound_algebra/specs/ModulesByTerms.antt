@@ -12,14 +12,14 @@ use Rattle.representations.specs.Rep.{Rep}
 use Rattle.bound_algebra.specs.TypedPaths.{quiver_of}
 use Rattle.bound_algebra.specs.PathMatrices.{path_matrix, left_path_matrix}
 
--- Where each path has such a matrix: each relation, its terms of the bound's length or more left out, is zero entry by entry, and so is each path of
--- the bound's length.
+-- Each path has a matrix with m rows and n columns. That of each written relation, the sum of coefficient times matrix over its terms that are shorter
+-- than the bound, is zero at each entry; and so is that of each path of the bound's length.
 pub record AreZeroByTerms (h : Header) (m n : ℕ) (matrix : Path → Mat h.field m n) : Type 0 where
   pub relations : (rel : Relation) → Contains h.relations rel → (x y : ℕ)
       → sum_over h.field rel.terms (λ t. if nat_lt (path_length t.path) h.bound then mul h.field t.coef ((matrix t.path).at x y) else 0) ≡ 0
   pub long : (p : Path) → IsPath h.quiver p → path_length p ≡ h.bound → matrix p ≡ zeros h.field m n
 
--- They act as zero on a right module, and on a left module.
+-- So it is for the matrices of the paths from v to w on X, for all v and w: on a right module, and on a left module.
 abbrev pub IsModuleByTerms : (h : Header) → Rep h.field (quiver_of h.quiver) → Type 0
 IsModuleByTerms h X = (v w : ℕ) → AreZeroByTerms h (X.dim v) (X.dim w) (path_matrix h.quiver X v w)
 
