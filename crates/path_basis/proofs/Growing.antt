@@ -1,5 +1,5 @@
 -- Completions with a rule more.
-use Rattle.std.proofs.Common.{ℕ, ◌≡◌, ◌≤◌, ◌+◌, ◌*◌, inl, inr, List, [], length, take, drop, sym, ap, ◌∙◌, subst, arith, length-append}
+use Rattle.std.proofs.Common.{ℕ, ◌≡◌, ◌≤◌, ◌+◌, ◌*◌, ◌^◌, inl, inr, List, [], length, take, drop, sym, ap, ◌∙◌, subst, arith, length-append}
 use Rattle.std.specs.Prelude.{Contains, All}
 use Rattle.std.proofs.lemmas.List.Elements.{All-contains, All-weaker, All-contains_itself, Contains-append_cases}
 use Rattle.std.proofs.lemmas.List.{take-append-drop}
@@ -31,7 +31,7 @@ all_members P xs m = All-weaker (Contains xs) P m xs (All-contains_itself xs)
 
 -- a rule is put in, and those that it replaces are put behind what was removed
 pub completed : (h : Header) (old removed new after : List Rule) (rule : Rule) (steps : List Step) → IsNewTo h old rule → IsDerivation h steps → AreDerived h steps old → Derives h steps rule.step (rule_element h rule)
-    → All (IsTidy h) removed → AreDerived h steps removed → length steps + 131136 * free_count h old ≤ 131136 * 4097 → Inserts h old rule new removed after → IsCompletion h new after steps
+    → All (IsTidy h) removed → AreDerived h steps removed → length steps + 131136 * free_count h old ≤ 2 ^ 31 + 131136 * 4098 → Inserts h old rule new removed after → IsCompletion h new after steps
 completed h old removed new after rule steps is lawful derived made tidy made_removed room i = record {
   tidy = i.inserted.tidy;
   lawful = lawful;

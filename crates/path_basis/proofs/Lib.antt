@@ -11,3 +11,6 @@ pub mod WorkedRules
 pub mod Marks
 pub mod Kept
 pub mod Renumbered
+pub mod SameTips
+pub mod Taken
+pub mod OneTail

@@ -9,13 +9,13 @@ use Rattle.quiver_paths.specs.Path.{Leads, path_length}
 use Rattle.quiver_paths.proofs.PathLemmas.{Leads-append, Leads-between, Leads-start, Leads-one}
 use Rattle.path_algebra.specs.declared.Header.{Header}
 use Rattle.path_algebra.specs.Words.{IsShortPath}
-use Rattle.path_basis.specs.Completing.{IsPlace}
+use Rattle.path_basis.specs.Completing.{IsObstruction}
 
 -- the first path, and then what the second has behind the arrows that are common
-pub overlap_is_place : (h : Header) (first second : Path) (cut common end : ℕ) (arrows : List ℕ) → IsShortPath h first → IsShortPath h second → cut < path_length first → common ≡ path_length first - cut
+pub overlap_is_obstruction : (h : Header) (first second : Path) (cut common rank end : ℕ) (arrows : List ℕ) → IsShortPath h first → IsShortPath h second → cut < path_length first → common ≡ path_length first - cut
     → path_length second - common < h.bound - path_length first → drop cut first.arrows ≡ take common second.arrows → arrows ≡ first.arrows ++ drop common second.arrows → end ≡ length arrows
-    → IsPlace h (record { path = record { start = first.start; end = second.end; arrows = arrows }; end = end })
-overlap_is_place h first second cut common end arrows hp hq inside count short same whole at =
+    → IsObstruction h (record { rank = rank; end = end; path = record { start = first.start; end = second.end; arrows = arrows } })
+overlap_is_obstruction h first second cut common rank end arrows hp hq inside count short same whole at =
     let Q = h.quiver in
     let shared : 0 < length (take common second.arrows) = (let l = ap length same in let k = length-drop cut first.arrows in omega arith) in
     let left = Leads-between Q first.start (take cut first.arrows) (drop cut first.arrows) first.end

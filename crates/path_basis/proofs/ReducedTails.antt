@@ -110,6 +110,38 @@ pub derived_more : (h : Header) (old new : List Step) (rules newer : List Rule) 
 derived_more h old new rules newer rule l derived d pushed =
     subst (AreDerived h new) (sym pushed) (All-push (λ (x : Rule). Derives h new x.step (rule_element h x)) rules rule (still_derived h old new rules l d.lawful derived) d)
 
+-- the paths of a reduced tail are within those of the tail
+within : (h : Header) (old : List Rule) → IsAllowed h → AreTidy h old → (y x : Rule) → Contains old y → IsTailReduced h old y x → (a : Term) → Contains x.tail.terms a → (b : Term) × Contains y.tail.terms b × IsWithin a.path b.path
+within h old ok tidy y x m t a k =
+    let red = tidy_reduction h old ok tidy in
+    reduced_within h old (tidy_rules h old ok tidy) red.becomes red.is y.tail.terms (paths_of h y.tail.terms (All-contains (IsTidy h) old y tidy.each m).tail) a.path
+    (λ z. term_nonzero h x.tail.terms t.are a k (t.value red.becomes red.is a.path ∙ z))
+
+-- a rule with its tail reduced is tidy
+pub tidy_with_tail : (h : Header) (old : List Rule) (y x : Rule) → IsAllowed h → AreTidy h old → Contains old y → IsTailReduced h old y x → IsTidy h x
+tidy_with_tail h old y x ok tidy listed reduced =
+    let t = All-contains (IsTidy h) old y tidy.each listed in
+    record {
+      path = subst (IsPath h.quiver) (sym reduced.tip) t.path;
+      not_trivial = (let l = t.not_trivial in let e = ap path_length reduced.tip in omega (arith, l, e));
+      short = subst (λ p. path_length p < h.bound) (sym reduced.tip) t.short;
+      tail = reduced.are;
+      parallel = all_members (λ (a : Term). IsParallel a.path x.tip) x.tail.terms (λ a k.
+          let w = within h old ok tidy y x listed reduced a k in
+          let q = All-contains (λ (c : Term). IsParallel c.path y.tip) y.tail.terms w.0 t.parallel w.1 in
+          record {
+            starts = w.2.parallel.starts ∙ q.starts ∙ ap (λ (p : Path). p.start) (sym reduced.tip);
+            ends = w.2.parallel.ends ∙ q.ends ∙ ap (λ (p : Path). p.end) (sym reduced.tip);
+          });
+      smaller = all_members (λ (a : Term). IsSmaller a.path x.tip) x.tail.terms (λ a k.
+          let w = within h old ok tidy y x listed reduced a k in
+          let s = All-contains (λ (c : Term). IsSmaller c.path y.tip) y.tail.terms w.0 t.smaller w.1 in
+          subst (IsSmaller a.path) (sym reduced.tip) (elim w.2.no_greater [
+            | inl e ↦ subst (λ p. IsSmaller p y.tip) (sym e) s
+            | inr less ↦ IsSmaller-trans a.path w.0.path y.tip less s
+          ]));
+    }
+
 -- ---- all of them
 
 module _ (h : Header) (old new : List Rule) (ok : IsAllowed h) (tidy : AreTidy h old) (reduced : AreTailsReduced h old (length old) new) where
@@ -145,37 +177,8 @@ module _ (h : Header) (old new : List Rule) (ok : IsAllowed h) (tidy : AreTidy h
   tidy_of : (y : Rule) → Contains old y → IsTidy h y
   tidy_of y m = All-contains (IsTidy h) old y tidy.each m
 
-  within : (y x : Rule) → Contains old y → IsTailReduced h old y x → (a : Term) → Contains x.tail.terms a → (b : Term) × Contains y.tail.terms b × IsWithin a.path b.path
-  within y x m t a k =
-      let red = tidy_reduction h old ok tidy in
-      reduced_within h old (tidy_rules h old ok tidy) red.becomes red.is y.tail.terms (paths_of h y.tail.terms (tidy_of y m).tail) a.path
-      (λ z. term_nonzero h x.tail.terms t.are a k (t.value red.becomes red.is a.path ∙ z))
-
   new_rule_tidy : (x : Rule) → Contains new x → IsTidy h x
-  new_rule_tidy x m =
-      let b = before x m in
-      let y : Rule = b.rule in
-      let t = tidy_of y b.listed in
-      record {
-        path = subst (IsPath h.quiver) (sym b.tail.tip) t.path;
-        not_trivial = (let l = t.not_trivial in let e = ap path_length b.tail.tip in omega (arith, l, e));
-        short = subst (λ p. path_length p < h.bound) (sym b.tail.tip) t.short;
-        tail = b.tail.are;
-        parallel = all_members (λ (a : Term). IsParallel a.path x.tip) x.tail.terms (λ a k.
-            let w = within y x b.listed b.tail a k in
-            let q = All-contains (λ (c : Term). IsParallel c.path y.tip) y.tail.terms w.0 t.parallel w.1 in
-            record {
-              starts = w.2.parallel.starts ∙ q.starts ∙ ap (λ (p : Path). p.start) (sym b.tail.tip);
-              ends = w.2.parallel.ends ∙ q.ends ∙ ap (λ (p : Path). p.end) (sym b.tail.tip);
-            });
-        smaller = all_members (λ (a : Term). IsSmaller a.path x.tip) x.tail.terms (λ a k.
-            let w = within y x b.listed b.tail a k in
-            let s = All-contains (λ (c : Term). IsSmaller c.path y.tip) y.tail.terms w.0 t.smaller w.1 in
-            subst (IsSmaller a.path) (sym b.tail.tip) (elim w.2.no_greater [
-              | inl e ↦ subst (λ p. IsSmaller p y.tip) (sym e) s
-              | inr less ↦ IsSmaller-trans a.path w.0.path y.tip less s
-            ]));
-      }
+  new_rule_tidy x m = (let b = before x m in tidy_with_tail h old b.rule x ok tidy b.listed b.tail)
 
   factor_by : (p t u : Path) → t ≡ u → IsFactor h.quiver t p → IsFactor h.quiver u p
   factor_by p t u e f = record {

@@ -1,5 +1,5 @@
 -- Rules with other steps: the same tips and tails.
-use Rattle.std.proofs.Common.{ℕ, ◌≡◌, ◌≤◌, ◌+◌, ◌*◌, List, [], ◌∷◌, Bool, not, length, map, get_or, refl, sym, ap, ap₂, ◌∙◌, subst, arith}
+use Rattle.std.proofs.Common.{ℕ, ◌≡◌, ◌≤◌, ◌+◌, ◌*◌, ◌^◌, List, [], ◌∷◌, Bool, not, length, map, get_or, refl, sym, ap, ap₂, ◌∙◌, subst, arith}
 use Rattle.std.specs.Prelude.{Contains, count_by, ◌||◌}
 use Rattle.std.proofs.lemmas.List.{length-map, get_or-map}
 use Rattle.std.proofs.lemmas.List.Elements.{All-weaker, All-map}
@@ -78,7 +78,7 @@ still_completion h old new removed steps kept none same fewer lawful derived com
   derived = derived completion.derived;
   removed_tidy = completion.removed_tidy;
   removed_derived = λ k d l. absurd (omega (arith, l, none));
-  room = (let r = completion.room in let e = still_free h old new same in subst (λ n. length kept + 131136 * n ≤ 131136 * 4096) (sym e) (omega (arith, r, fewer)));
+  room = (let r = completion.room in let e = still_free h old new same in subst (λ n. length kept + 131136 * n ≤ 2 ^ 31 + 131136 * 4097) (sym e) (omega (arith, r, fewer)));
 }
 
 -- the same of what is read

@@ -1,5 +1,5 @@
 -- Rules with reduced tails.
-use Rattle.std.specs.Prelude.{ℕ, ◌≡◌, ◌<◌, List, length, All, slice_index_or}
+use Rattle.std.specs.Prelude.{ℕ, ◌≡◌, ◌<◌, List, length, map, All, slice_index_or}
 use Rattle.quiver_paths.specs.declared.Path.{Path}
 use Rattle.path_algebra.specs.declared.Term.{Term}
 use Rattle.path_algebra.specs.declared.Header.{Header}
@@ -21,3 +21,7 @@ pub record IsTailReduced (h : Header) (rules : List Rule) (old new : Rule) : Typ
 pub record AreTailsReduced (h : Header) (rules : List Rule) (count : ℕ) (new : List Rule) : Type 0 where
   pub length_is : length new ≡ count
   pub each : (k : ℕ) (d : Rule) → k < count → IsTailReduced h rules (slice_index_or rules k d) (slice_index_or new k d)
+
+-- the tips are the same, in their order
+abbrev pub HaveSameTips : List Rule → List Rule → Type 0
+HaveSameTips old new = map (λ (x : Rule). x.tip) new ≡ map (λ (x : Rule). x.tip) old

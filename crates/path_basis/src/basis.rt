@@ -1,5 +1,6 @@
 //! The reduced rules of an ideal, and the table of the quotient.
 ghost use Rattle.std.specs.Prelude.{ℕ, ◌≡◌, ◌<◌, ◌≤◌, ◌+◌, ◌^◌, List, length, slice_index_or, IfOk, IfErr, IfSome, IfNone, OnOk};
+ghost use Rattle.std.specs.BinaryHeap.{heap_items};
 ghost use Rattle.quiver_paths.specs.declared.PathError.TheVariants.{PathLimit, NoMemory};
 ghost use Rattle.quiver_paths.specs.declared.Path.{Path};
 ghost use Rattle.quiver_paths.specs.PathList.{path_count, saturated, ListsPathsBelow};
@@ -87,7 +88,7 @@ fn basis_if_holds(
     requires completion { IsCompletion header.now state.old.rules.items state.old.removed.items state.old.steps.items }
     requires paths { ListsPathsBelow header.now.quiver header.now.bound paths.now }
     requires few_paths { length paths.now ≤ 4096 }
-    ensures same { OnOk result (IsSame state.old.rules.items state.old.removed.items state.old.places.items state.new.rules.items state.new.removed.items state.new.places.items) }
+    ensures same { OnOk result (IsSame state.old.rules.items state.old.removed.items (heap_items state.old.obstructions) state.new.rules.items state.new.removed.items (heap_items state.new.obstructions)) }
     ensures steps { OnOk result (state.new.steps.items ≡ state.old.steps.items) }
     ensures holds { IfOk result (λ found. IfSome found (IsResult header.now)) }
     ensures gaps { IfOk result (λ found. IfNone found (IsClosed header.now state.old.rules.items → ⊥)) }
@@ -117,7 +118,7 @@ fn reduced_rules(
     requires few { path_count header.now.quiver header.now.bound ≤ 4096 }
     requires space { ListsPathsBelow header.now.quiver header.now.bound space.now }
     requires completion { IsCompletion header.now state.old.rules.items state.old.removed.items state.old.steps.items }
-    ensures same { OnOk result (IsSame state.old.rules.items state.old.removed.items state.old.places.items state.new.rules.items state.new.removed.items state.new.places.items) }
+    ensures same { OnOk result (IsSame state.old.rules.items state.old.removed.items (heap_items state.old.obstructions) state.new.rules.items state.new.removed.items (heap_items state.new.obstructions)) }
     ensures steps { OnOk result (state.new.steps.items ≡ state.old.steps.items) }
     ensures tidy { IfOk result (λ r. AreTidy header.now r.0.items) }
     ensures closed { IfOk result (λ r. IsClosed header.now state.old.rules.items → AreReducedRules header.now r.0.items) }

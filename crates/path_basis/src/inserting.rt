@@ -62,7 +62,7 @@ fn sort_out(
 }
 
 /// Whether the run stands among the arrows, one behind the other.
-fn has_run(arrows: &[u8], run: &[u8]) -> bool
+pub(crate) fn has_run(arrows: &[u8], run: &[u8]) -> bool
     ensures { result ≡ runs_in run.now arrows.now }
 {
     for start in 0..arrows.len() {

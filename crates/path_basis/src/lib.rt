@@ -5,7 +5,7 @@ mod basis;
 mod completion;
 mod inserting;
 pub mod laws;
-mod places;
+mod obstructions;
 mod pruning;
 mod tails;
 #[cfg(test)]

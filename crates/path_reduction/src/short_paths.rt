@@ -118,6 +118,26 @@ impl ShortPaths {
         Some(next as usize - 1)
     }
 
+    /// The place of the path from a vertex along these arrows, one run behind the other; none where it is no short path. It takes no memory.
+    pub fn place_along(
+        &self,
+        vertex: u8,
+        first: &[u8],
+        second: &[u8],
+        third: &[u8],
+    ) -> Option<usize>
+        ensures { IfSome result (λ k. IsWalked self.now vertex (first.now ++ (second.now ++ third.now)) k) }
+    {
+        let start = vertex as usize;
+        if start >= self.paths.len() {
+            return None;
+        }
+        match self.walk(start, first) {
+            None => None,
+            Some(at) => self.walk_on(at, second, third),
+        }
+    }
+
     /// The place of the path with these arrows and then those behind the path at a place; none where it is no short path. It takes no memory.
     pub(crate) fn walk_on(&self, place: usize, first: &[u8], second: &[u8]) -> Option<usize>
         requires { place < length self.now }

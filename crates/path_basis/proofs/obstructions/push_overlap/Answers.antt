@@ -2,9 +2,9 @@ use Rattle.std.proofs.Common.{◌-◌, length, arith, ap, refl, sym, subst}
 use Rattle.quiver_paths.specs.Path.{path_length}
 use Rattle.std.specs.Prelude.{All}
 use Rattle.std.proofs.lemmas.List.Elements.{All-push}
-use Rattle.path_basis.specs.Completing.{IsPlace}
-use Rattle.path_basis.proofs.Overlaps.{overlap_is_place, shared_from_test, overlap_arrows}
-use Rattle.path_basis.proofs.places.push_overlap.Goals as goal
+use Rattle.path_basis.specs.Completing.{IsObstruction}
+use Rattle.path_basis.proofs.Overlaps.{overlap_is_obstruction, shared_from_test, overlap_arrows}
+use Rattle.path_basis.proofs.obstructions.push_overlap.Goals as goal
 
 pub returns : goal.returns
 returns c =
@@ -13,8 +13,8 @@ returns c =
     let second = c.args.second.now in
     let e = c.as_slice-front.ensures in
     let f = c.as_slice-rest.ensures in
-    subst (All (IsPlace h)) (sym c.in_ok-push.ensures.items) (All-push (IsPlace h) c.args.places.now.items _ c.requires.places
-    (overlap_is_place h first second c.args.cut (path_length first - c.args.cut) _ _ c.requires.first c.requires.second c.requires.inside refl (omega (arith, c.if-rest-common.false, ap length e, ap length f))
+    subst (All (IsObstruction h)) (sym c.in_ok-push.ensures.items) (All-push (IsObstruction h) c.args.found.now.items _ c.requires.found
+    (overlap_is_obstruction h first second c.args.cut (path_length first - c.args.cut) _ _ _ c.requires.first c.requires.second c.requires.inside refl (omega (arith, c.if-rest-common.false, ap length e, ap length f))
     (shared_from_test first.arrows second.arrows c.as_slice-front.result.now c.as_slice-rest.result.now c.args.cut e f c.if-ne.ensures)
     (overlap_arrows first.arrows second.arrows c.as_slice-front.result.now c.as_slice-rest.result.now c.in_ok-arrows.arrows.items c.extend_from_slice.new.self.items _ c.args.cut e f
     c.in_ok-arrows.ensures.items c.in_ok-extend_from_slice.ensures.items c.from_vec.ensures)
