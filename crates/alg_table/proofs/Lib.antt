@@ -7,4 +7,3 @@ pub mod CheckedTable
 pub mod FirstWords
 pub mod PlaceLists
 pub mod TableActs
-pub mod WorkedLoops

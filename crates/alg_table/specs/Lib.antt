@@ -3,4 +3,3 @@ pub mod FirstClauses
 pub mod NormalForm
 pub mod WordPlaces
 pub mod TableView
-pub mod Worked

@@ -13,6 +13,3 @@ mod words;
 pub use checking::{CheckBasisError, check_basis};
 pub use first_clauses::first_fault;
 pub use table::{Side, Table};
-
-#[cfg(test)]
-mod tests;

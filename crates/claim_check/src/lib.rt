@@ -6,6 +6,3 @@ mod reports;
 
 pub use claims::{Scratch, check_claim, scratch_for};
 pub use reports::check_report;
-
-#[cfg(test)]
-mod tests;

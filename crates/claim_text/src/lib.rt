@@ -9,6 +9,3 @@ mod writing;
 
 pub use reader::{ReadTextError, read};
 pub use writing::{write, write_end, write_header, write_record};
-
-#[cfg(test)]
-mod tests;

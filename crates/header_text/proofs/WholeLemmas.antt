@@ -1,4 +1,4 @@
--- A text that is read is the spelling of the header that was read, and the spelling of a header is read.
+-- The spelling of a header that is allowed is read, line by line.
 use Rattle.std.proofs.Common.{◌≡◌, ◌≢◌, ℕ, ◌<◌, ◌≤◌, ◌^◌, true, false, List, [], ◌∷◌, ◌++◌, map, length, codes, decimal, refl, sym, ap, ◌∙◌, subst, arith, append_assoc, append-nil, lit<}
 use Rattle.std.specs.Prelude.{All, AllPairs, Contains}
 use Rattle.std.specs.List.{concat}
@@ -27,41 +27,10 @@ use Rattle.header_text.specs.declared.forms.Form.TheVariants.{Field, Vertex, Arr
 use Rattle.header_text.specs.Spelling.{vertex_name, path_text, coefficient_text, term_text, terms_arguments, field_line, vertex_line, arrow_line, bound_line, relation_line, header_lines, text_of, header_text}
 use Rattle.header_text.specs.Named.{IsNamed}
 use Rattle.header_text.specs.Part.{Part, IsStart, FitsVertex, FitsArrow, FitsBound, FitsRelation, Fits, tokens_of, after, Step, IsFront, MayEnd, part_lines}
-use Rattle.text_lines.specs.Refusals.{IsRefused}
-use Rattle.text_lines.specs.declared.reading.TextError.{TextError}
-use Rattle.text_lines.specs.declared.reading.TextError.TheVariants.{BadLine, NoMemory}
-use Rattle.header_text.specs.Refused.{IsNoHeader}
 use Rattle.header_text.proofs.Clean.{IsOutside, space_outside, feed_outside, name_lacks, decimal_lacks, vertex_name_lacks, path_lacks, coefficient_lacks, lacks_append, joined_lacks, plus_between_lacks, lacks_by_test}
 use Rattle.header_text.proofs.Readers.{order_small}
 use Rattle.header_text.proofs.FormLemmas.{the_step}
 use Rattle.header_text.proofs.FrontLemmas.{front_after, lines_after, allowed_at_end, lines_at_end, lines_at_start, start_front, IsRelation-moved}
-
--- Soundness.
-
-strict_lines : List (List (List ℕ)) → List (List ℕ)
-strict_lines ls = map strict_line ls
-
-pub read_lines_are : (p q : Part) (ls : List (List ℕ)) → IsFront p → Reads Step p ls q → IsFront q × (map strict_line (part_lines q) ≡ map strict_line (part_lines p) ++ ls)
-read_lines_are p q [] front reads = (subst IsFront (sym reads) front, ap (λ r. map strict_line (part_lines r)) reads ∙ sym (append-nil (map strict_line (part_lines p))))
-read_lines_are p q (line ∷ ls) front reads =
-    let x = reads.1.step.form in
-    let fits = reads.1.step.follows.1 in
-    let next : IsFront reads.0 = subst IsFront (sym reads.1.step.leads) (front_after p x front fits) in
-    let more = read_lines_are reads.0 q ls next reads.2 in
-    let is : line ≡ strict_line (tokens_of p x) = strict_line-of_tokens line (tokens_of p x) reads.1.step.spelled in
-    let one : map strict_line (part_lines reads.0) ≡ map strict_line (part_lines p) ++ line ∷ [] =
-    ap (λ r. map strict_line (part_lines r)) reads.1.step.leads ∙ (ap (map strict_line) (lines_after p x front fits)
-    ∙ (map-append strict_line (part_lines p) (tokens_of p x ∷ []) ∙ ap (λ r. map strict_line (part_lines p) ++ r ∷ []) (sym is))) in
-    (more.0, more.1 ∙ (ap (λ r. r ++ ls) one ∙ append_assoc (map strict_line (part_lines p)) (line ∷ []) ls))
-
--- what was read whole is the spelling of a header that is allowed
-pub read_is_spelled : (s q : Part) (text : List ℕ) → IsStart s → ReadsWhole Step MayEnd s (lines text) q → IsAllowed q.header × (text ≡ header_text q.header)
-read_is_spelled s q text start whole =
-    let read = read_lines_are s q (lines text) (start_front s start) whole.reads in
-    let e : map strict_line (part_lines q) ≡ lines text = read.1 ∙ ap (λ r. map strict_line r ++ lines text) (lines_at_start s start) in
-    (allowed_at_end q read.0 whole.ends, sym (concat-lines text) ∙ (ap concat (sym e) ∙ ap text_of (lines_at_end q read.0 whole.ends)))
-
--- Completeness.
 
 pub IsNamed-allowed : (h : Header) → IsAllowed h → IsNamed h.quiver
 IsNamed-allowed h is = record {
@@ -277,39 +246,3 @@ header_lacks h is =
     (All-map P (arrow_line h.quiver) h.quiver.arrows (All-weaker (λ (a : Arrow). IsArrowName a.name) (λ a. P (arrow_line h.quiver a)) (arrow_lacks 10 out feeds.arrow_word h.quiver named) h.quiver.arrows is.arrow_names))
     (All-cons P (bound_line h.bound) rs (bound_lacks 10 out feeds.bound_word h.bound is.bound_to)
     (All-map P (relation_line h.quiver) h.relations (All-weaker (IsRelation h) (λ r. P (relation_line h.quiver r)) (relation_lacks 10 out feeds.relation_word h named) h.relations is.relations)))))
-
-pub spelled_is_read : (s : Part) (h : Header) (text : List ℕ) → IsStart s → IsAllowed h → text ≡ header_text h → ReadsWhole Step MayEnd s (lines text) record { is_begun = true; header = h }
-spelled_is_read s h text start is e =
-    let low = is.bound_from in
-    record {
-      reads = subst (λ ls. Reads Step s ls record { is_begun = true; header = h }) (sym (ap lines e ∙ lines_of_text (header_lines h) (header_lacks h is))) (reads_header s h start is);
-      ends = omega arith;
-    }
-
-step_once : (p : Part) (line : List ℕ) (q r : Part) → Step p line q → Step p line r → q ≡ r
-step_once p line q r a b = b.only q a.step
-
-pub bad_is_not_spelled : (s : Part) (text : List ℕ) (k : ℕ) → IsStart s → IsFirstBad Step MayEnd s (lines text) k → (h : Header) → IsAllowed h → text ≡ header_text h → ⊥
-bad_is_not_spelled s text k start bad h is e = whole_not_bad Step MayEnd step_once s record { is_begun = true; header = h } (lines text) k (spelled_is_read s h text start is e) bad
-
-Reads-one : (p q r : Part) (ls : List (List ℕ)) → Reads Step p ls q → Reads Step p ls r → q ≡ r
-Reads-one p q r [] a b = a ∙ sym b
-Reads-one p q r (l ∷ ls) a b = Reads-one b.0 q r ls (subst (λ m. Reads Step m ls q) (step_once p l a.0 b.0 a.1 b.1) a.2) b.2
-
-bare : Gf → Part
-bare f = record { is_begun = false; header = record { field = f; quiver = record { vertices = []; arrows = [] }; bound = 0; relations = [] } }
-
-bare_start : (f : Gf) → IsStart (bare f)
-unfolding bare
-bare_start f = record { unbegun = refl; no_vertex = refl; no_arrow = refl; unbound = refl; no_relation = refl }
-
-pub one_text_one_header : (g h : Header) → IsAllowed g → IsAllowed h → header_text g ≡ header_text h → g ≡ h
-one_text_one_header g h a b e =
-    let s = bare g.field in
-    let first = spelled_is_read s g (header_text g) (bare_start g.field) a refl in
-    let second = spelled_is_read s h (header_text g) (bare_start g.field) b e in
-    ap (λ (p : Part). p.header) (Reads-one s record { is_begun = true; header = g } record { is_begun = true; header = h } (lines (header_text g)) first.reads second.reads)
-
-pub no_header_of : (s : Part) (text : List ℕ) (e : TextError) → IsStart s → IsRefused Step MayEnd s (lines text) e → IsNoHeader text e
-no_header_of s text (BadLine line) start bad = bad_is_not_spelled s text line start bad
-no_header_of s text NoMemory start bad = bad

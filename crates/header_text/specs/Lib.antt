@@ -2,4 +2,3 @@ pub mod Spelling
 pub mod Named
 pub mod Reading
 pub mod Part
-pub mod Refused

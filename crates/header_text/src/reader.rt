@@ -1,11 +1,7 @@
 //! Reading a header line by line.
 ghost use Rattle.std.specs.Prelude.{ℕ, ◌≡◌, ◌<◌, ◌+◌, ◌^◌, ◌∷◌, ◌↔◌, List, codes, length, IfOk, IfErr, OnOk, IsTrue, MatchBool};
-ghost use Rattle.path_algebra.specs.declared.Header.{Header};
-ghost use Rattle.path_algebra.specs.Allowed.{IsAllowed};
-ghost use Rattle.header_text.specs.Spelling.{header_text};
 ghost use Rattle.header_text.specs.Reading.{Reads};
 ghost use Rattle.header_text.specs.Part.{Part, IsStart, start, Fits, tokens_of, after, Step, MayEnd, IsFront};
-ghost use Rattle.header_text.specs.Refused.{IsNoHeader};
 
 use crate::arguments::{
     is_new_arrow, is_new_vertex, only_arrow, only_field, only_name, only_number,
@@ -18,7 +14,7 @@ use quiver_paths::Quiver;
 use seq::Seq;
 use std::alloc::{AllocError, Global};
 use std::marker::Model;
-use text_lines::{LineReader, Parts, TextError, read_lines, strict_tokens};
+use text_lines::{LineReader, Parts, strict_tokens};
 
 /// What has been read of a header.
 #[derive(Drop)]
@@ -232,22 +228,3 @@ impl LineReader for HeaderReader {
 
     ghost determined = { λ p line q r a b. b.only q a.step };
 }
-
-/// The header that the text spells. A text is refused exactly where it spells no header that is allowed.
-pub fn read_header(alloc: Global, text: &[u8]) -> Result<Header, TextError>
-    requires { length text.now + 1 < 2 ^ 32 }
-    ensures allowed { IfOk result (λ h. IsAllowed h) }
-    ensures spelled { IfOk result (λ h. text.now ≡ header_text h) }
-    ensures refused { IfErr result (IsNoHeader text.now) }
-{
-    let mut reader = HeaderReader::new(alloc);
-    match read_lines(&mut reader, text) {
-        Ok(()) => Ok(reader.into_header()),
-        Err(error) => Err(error),
-    }
-}
-
-/// Two allowed headers of one text are one header.
-pub fn one_header()
-    ensures { (g h : Header) → IsAllowed g → IsAllowed h → header_text g ≡ header_text h → g ≡ h }
-{}

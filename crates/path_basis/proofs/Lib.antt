@@ -7,7 +7,6 @@ pub mod Measure
 pub mod Inserted
 pub mod ReducedTails
 pub mod NormalWords
-pub mod WorkedRules
 pub mod Marks
 pub mod Kept
 pub mod Renumbered

@@ -3,7 +3,6 @@ pub mod Measure
 pub mod Completing
 pub mod Tails
 pub mod Sifting
-pub mod Worked
 pub mod Used
 pub mod Pruning
 pub mod Results

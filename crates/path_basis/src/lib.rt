@@ -8,8 +8,6 @@ pub mod laws;
 mod obstructions;
 mod pruning;
 mod tails;
-#[cfg(test)]
-mod tests;
 
 pub use basis::{Reduced, reduce_basis};
 pub use path_reduction::{Gap, first_gap};

@@ -1,18 +1,10 @@
 //! The calculator: `run` reads a script from standard input and writes its report to standard output, `check` reads a report and writes the verdict on it.
 #![tactic(auto)]
 
-mod checking;
-pub mod laws;
-mod modes;
-mod outcome;
-mod running;
-mod texts;
-
 use quiv_io::{ReaderSource, WriterSink};
-use running::quiv;
-use std::alloc::{AllocError, Global};
 use std::process::ExitCode;
 use std::{env, io};
+use top_call::quiv;
 
 /// The words behind the program's name, where the system gives them.
 fn words_of(rt: &HostRuntime) -> Option<Vec<String>> {
@@ -29,6 +21,3 @@ fn main(rt: HostRuntime) -> ExitCode {
     let outcome = quiv(rt.alloc(), words.as_slice(), &mut source, &mut sink);
     ExitCode::from(outcome.status())
 }
-
-#[cfg(test)]
-mod tests;

@@ -13,6 +13,3 @@ mod statements;
 mod tokens;
 
 pub use reader::{ParseError, parse};
-
-#[cfg(test)]
-mod tests;

@@ -14,6 +14,3 @@ pub use numerals::{
 pub use parts::{Parts, cut_at, joined_parts, parts_joined};
 pub use reading::{LineReader, TextError, one_first_bad_line, read_lines};
 pub use script::{Words, script_number, script_numbers_are_written, script_words};
-
-#[cfg(test)]
-mod tests;

@@ -1,0 +1,130 @@
+//! The top call.
+ghost use Rattle.std.specs.Prelude.{ℕ, ◌≡◌, ◌≤◌, List, map, length, string_bytes, Some};
+ghost use Rattle.quiv_io.specs.Counts.{Rose};
+ghost use Rattle.top_call.specs.declared.modes.Mode.{Mode};
+ghost use Rattle.top_call.specs.declared.modes.Mode.TheVariants.{Run, Check};
+ghost use Rattle.top_call.specs.Modes.{AsksFor, input_limit};
+ghost use Rattle.top_call.specs.Outcomes.{IsText, IsBegun, IsStopped, Writes, HasCause};
+ghost use Rattle.top_call.specs.Expected.{IsGood, IsDoneOrNoMemory};
+ghost use Rattle.top_call.specs.Steps.{Finishes, EndsWith, Refuses, run_outcome};
+
+use crate::checking::check_input;
+use crate::modes::{Mode, mode_of};
+use crate::outcome::Outcome;
+use crate::texts::bad_text;
+use quiv_io::{ReadError, Sink, Source, read_all, write_whole};
+use script_lang::{ParseError, parse};
+use script_run::{RunEnd, run};
+use std::alloc::Global;
+
+/// Does all that the program does: reads the words, reads the source to its end, and writes to the sink what the mode answers. See `Writes` and
+/// `HasCause` for what is written with each outcome and when it comes.
+///
+/// With `Done` each claim in the report that was written or read holds, by the definitions; with `run` the report answers the script.
+pub fn quiv<S: Source, K: Sink>(
+    alloc: Global,
+    words: &[String],
+    source: &mut S,
+    sink: &mut K,
+) -> Outcome
+    ensures writes { Writes (IsText (map string_bytes words.now) (S.left source.old) (S.left source.new)) (IsBegun (map string_bytes words.now) (S.left source.old) (S.left source.new))
+        (IsStopped (map string_bytes words.now) (S.left source.old) (S.left source.new)) result (K.taken sink.old) (K.taken sink.new) }
+    ensures cause { HasCause result (S.faults source.old) (S.faults source.new) (K.faults sink.old) (K.faults sink.new) }
+    ensures counts { (S.faults source.old ≤ S.faults source.new) × (K.faults sink.old ≤ K.faults sink.new) }
+
+    // A script of which nothing is refused, and a report of which all conditions hold, that are not too long: the outcome is Done or NoMemory.
+    ensures complete { (mode : Mode) → AsksFor (map string_bytes words.now) mode → (Rose (S.faults source.old) (S.faults source.new) → ⊥) → (Rose (K.faults sink.old) (K.faults sink.new) → ⊥)
+        → (input : List ℕ) → S.left source.old ≡ Some input → length input ≤ input_limit mode → IsGood mode input → IsDoneOrNoMemory result }
+{
+    answer(alloc, words, source, sink)
+}
+
+/// Reads the words and the source, and writes what the mode answers.
+fn answer<S: Source, K: Sink>(
+    alloc: Global,
+    words: &[String],
+    source: &mut S,
+    sink: &mut K,
+) -> Outcome
+    ensures writes { Writes (IsText (map string_bytes words.now) (S.left source.old) (S.left source.new)) (IsBegun (map string_bytes words.now) (S.left source.old) (S.left source.new))
+        (IsStopped (map string_bytes words.now) (S.left source.old) (S.left source.new)) result (K.taken sink.old) (K.taken sink.new) }
+    ensures cause { HasCause result (S.faults source.old) (S.faults source.new) (K.faults sink.old) (K.faults sink.new) }
+    ensures counts { (S.faults source.old ≤ S.faults source.new) × (K.faults sink.old ≤ K.faults sink.new) }
+{
+    let Some(mode) = mode_of(words) else {
+        return finish(
+            sink,
+            Outcome::Usage,
+            b"usage: quiv run|check [--workers K] | quiv gen --seed S --size N\n",
+        );
+    };
+    let input = match read_all(alloc, source, mode.input_limit()) {
+        Ok(input) => input,
+        Err(ReadError::Fault) => return Outcome::ReadFault,
+        Err(ReadError::TooLong) => return finish(sink, Outcome::TooLong, b"toolong\n"),
+        Err(ReadError::NoMemory) => return Outcome::NoMemory,
+    };
+    match mode {
+        Mode::Run => run_input(alloc, &input, sink),
+        Mode::Check => answer_check(alloc, &input, sink),
+    }
+}
+
+/// Runs the script that the input is.
+fn run_input<K: Sink>(alloc: Global, input: &[u8], sink: &mut K) -> Outcome
+    requires { length input.now ≤ input_limit Run }
+    ensures count { K.faults sink.old ≤ K.faults sink.new }
+    ensures ends { EndsWith Run input.now result (K.taken sink.old) (K.taken sink.new) (K.faults sink.old) (K.faults sink.new) }
+{
+    match parse(alloc, input) {
+        Ok(script) => outcome_of(run(alloc, &script, 1, sink)),
+        Err(ParseError::BadText { line }) => refuse_text(alloc, line, sink),
+        Err(ParseError::NoMemory) => Outcome::NoMemory,
+    }
+}
+
+/// The outcome of a run of a script.
+fn outcome_of(end: RunEnd) -> Outcome
+    ensures { result ≡ run_outcome end }
+{
+    match end {
+        RunEnd::Done { .. } => Outcome::Done,
+        RunEnd::Refused { line, why } => Outcome::Refused { line, why },
+        RunEnd::WriteFault => Outcome::WriteFault,
+        RunEnd::NoMemory => Outcome::NoMemory,
+    }
+}
+
+/// Names the first bad line.
+fn refuse_text<K: Sink>(alloc: Global, line: u32, sink: &mut K) -> Outcome
+    ensures count { K.faults sink.old ≤ K.faults sink.new }
+    ensures ends { Refuses line (K.taken sink.old) (K.taken sink.new) (K.faults sink.old) (K.faults sink.new) result }
+{
+    let Ok(text) = bad_text(alloc, line) else {
+        return Outcome::NoMemory;
+    };
+    finish(sink, Outcome::BadText { line }, &text)
+}
+
+/// Writes the verdict on the report that the input is.
+fn answer_check<K: Sink>(alloc: Global, input: &[u8], sink: &mut K) -> Outcome
+    requires { length input.now ≤ input_limit Check }
+    ensures count { K.faults sink.old ≤ K.faults sink.new }
+    ensures ends { EndsWith Check input.now result (K.taken sink.old) (K.taken sink.new) (K.faults sink.old) (K.faults sink.new) }
+{
+    let Ok(answer) = check_input(alloc, input) else {
+        return Outcome::NoMemory;
+    };
+    finish(sink, answer.outcome, &answer.text)
+}
+
+/// Writes the whole text of an outcome.
+fn finish<K: Sink>(sink: &mut K, outcome: Outcome, text: &[u8]) -> Outcome
+    ensures count { K.faults sink.old ≤ K.faults sink.new }
+    ensures outcome { Finishes outcome text.now (K.taken sink.old) (K.taken sink.new) (K.faults sink.old) (K.faults sink.new) result }
+{
+    match write_whole(sink, text) {
+        Ok(()) => outcome,
+        Err(_) => Outcome::WriteFault,
+    }
+}
