@@ -1,0 +1,11 @@
+pub mod ChosenConditions
+pub mod ChosenTerms
+pub mod DecompositionLaws
+pub mod FirstFailing
+pub mod HomLaws
+pub mod KernelLaws
+pub mod PrintedMaps
+pub mod RadicalLaws
+pub mod Sides
+pub mod TermMaps
+pub mod TermsByRanks
