@@ -9,7 +9,7 @@ use Rattle.representations.specs.Quiver.{BoundQuiver}
 use Rattle.representations.specs.Rep.{Rep, IsMod}
 use Rattle.representations.specs.Hom.{Hom, zero_hom}
 use Rattle.projectives.specs.Words.{Words, IsWordBasis}
-use Rattle.projectives.specs.Extensions.{ExtensionBasis}
+use Rattle.projectives.specs.Extensions.{IsExtensionBasis}
 use Rattle.projectives.specs.CanonicalCover.{projectives_at}
 use Rattle.module_types.specs.declared.Module.{Module}
 use Rattle.module_types.specs.declared.TermRows.{TermRows}
@@ -38,10 +38,8 @@ map_before A W X terms d (suc n) = d (suc n)
 pub record AreExtensions {q : Gf} (A : BoundQuiver) (W : Words q A.quiver) (B : IsWordBasis A W) (X Y : Rep q A.quiver) (M : IsMod A Y) (terms : List TermRows) (n : ℕ)
     {e : ℕ} (E : Mat q e (coordinates Y (term_at terms n))) : Type 0 where
   pub resolution : AreResolution A W B X terms (suc n)
-  pub basis : ExtensionBasis A W B (count (term_at terms (suc n))) (vertex (term_at terms (suc n))) (count (term_at terms n)) (vertex (term_at terms n))
-      (count (term_before terms n)) (vertex (term_before terms n)) Y M (resolution.differential (suc n)) (map_before A W X terms resolution.differential n)
-  pub size : basis.size ≡ e
-  pub rows : (i j : ℕ) → basis.rows.at i j ≡ E.at i j
+  pub basis : IsExtensionBasis A W B (count (term_at terms (suc n))) (vertex (term_at terms (suc n))) (count (term_at terms n)) (vertex (term_at terms n))
+      (count (term_before terms n)) (vertex (term_before terms n)) Y M (resolution.differential (suc n)) (map_before A W X terms resolution.differential n) E
 
 -- the printed rows, in the coordinates of homomorphisms from term n to b
 abbrev pub extension_rows : (h : Header) (a b : Module) (terms : List TermRows) (n : ℕ) (rows : PlainMatrix) → Mat h.field rows.row_count (coordinates (read_beside h a b) (term_at terms n))

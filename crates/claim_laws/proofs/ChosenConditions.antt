@@ -1,10 +1,10 @@
 -- Terms with canonical generators meet the other conditions as well.
-use Rattle.std.proofs.Common.{ℕ, zero, suc, ◌+◌, ◌<◌, ◌≤◌, ◌≡◌, List, length, get_or, refl, sym, ap, ap₂, ◌∙◌, subst, arith}
+use Rattle.std.proofs.Common.{ℕ, zero, suc, ◌+◌, ◌<◌, ◌≤◌, ◌≡◌, List, length, get_or, sym, ap, ap₂, ◌∙◌, subst}
 use mathlib.Core.Path.{fun_ext}
 use mathlib.Core.HLevel.{is_prop→PathP}
 use Rattle.linear_algebra.specs.Field.{Gf}
-use Rattle.linear_algebra.specs.Matrix.{Mat, Row, zeros, ◌·◌}
-use Rattle.linear_algebra.specs.Parts.{row, unit}
+use Rattle.linear_algebra.specs.Matrix.{Mat, ◌·◌}
+use Rattle.linear_algebra.specs.Parts.{unit}
 use Rattle.linear_algebra.specs.Rank.{IsInSpan, HasRightInverse}
 use Rattle.linear_algebra.proofs.PartsLaws.{unit_mul}
 use Rattle.linear_algebra.proofs.Solving.{right_inverse_cancels, surjective_left_inverse}
@@ -85,23 +85,23 @@ module _ {q : Gf} (A : BoundQuiver) (W : Words q A.quiver) (B : IsWordBasis A W)
       (λ j. unit q (X.dim (vertex_in (vertices_at terms zero) j)) (get_or (canonical_columns (sub_rep (whole X))) j zero)),
       chosen_rows zero (whole X) d,
       independent_of_kernel_minimal A W B (length (vertices_at terms zero)) (vertex_in (vertices_at terms zero)) (inclusion (whole X)) (inclusion_mono (whole X))
-      (zero_hom X (zero_rep q A.quiver)) (whole_exact X) (map_of A W B X M terms zero) (epi_exact (map_of A W B X M terms zero) minimal_is.onto)
-      (λ j. unit q (X.dim (vertex_in (vertices_at terms zero) j)) (get_or (canonical_columns (sub_rep (whole X))) j zero))
-      (λ j h. chosen_rows zero (whole X) d j h ∙ sym (map_of-value A W B X M terms zero j h)) (minimal_is.minimal zero l),
+          (zero_hom X (zero_rep q A.quiver)) (whole_exact X) (map_of A W B X M terms zero) (epi_exact (map_of A W B X M terms zero) minimal_is.onto)
+          (λ j. unit q (X.dim (vertex_in (vertices_at terms zero) j)) (get_or (canonical_columns (sub_rep (whole X))) j zero))
+          (λ j h. chosen_rows zero (whole X) d j h ∙ sym (map_of-value A W B X M terms zero j h)) (minimal_is.minimal zero l),
     )
     chosen_independent (suc k) l d =
         let U = kernel_part (projectives_at W (vertices_at terms k)) (printed_matrix W X terms k) d.0 in (
-        d.0,
-        (
-          (λ j. unit q (U.size (vertex_in (vertices_at terms (suc k)) j)) (get_or (canonical_columns (sub_rep U)) j zero)),
-          chosen_rows (suc k) U d.1,
-          independent_of_kernel_minimal A W B (length (vertices_at terms (suc k))) (vertex_in (vertices_at terms (suc k))) (inclusion U) (inclusion_mono U)
-          (map_of A W B X M terms k) (kernel_part_exact (map_of A W B X M terms k) (printed_matrix W X terms k) (λ w. map_of-at A W B X M terms k w) d.0)
-          (map_of A W B X M terms (suc k)) (minimal_is.exact k l)
-          (λ j. unit q (U.size (vertex_in (vertices_at terms (suc k)) j)) (get_or (canonical_columns (sub_rep U)) j zero))
-          (λ j h. chosen_rows (suc k) U d.1 j h ∙ sym (map_of-value A W B X M terms (suc k) j h)) (minimal_is.minimal (suc k) l),
-        ),
-      )
+          d.0,
+          (
+            (λ j. unit q (U.size (vertex_in (vertices_at terms (suc k)) j)) (get_or (canonical_columns (sub_rep U)) j zero)),
+            chosen_rows (suc k) U d.1,
+            independent_of_kernel_minimal A W B (length (vertices_at terms (suc k))) (vertex_in (vertices_at terms (suc k))) (inclusion U) (inclusion_mono U)
+                (map_of A W B X M terms k) (kernel_part_exact (map_of A W B X M terms k) (printed_matrix W X terms k) (λ w. map_of-at A W B X M terms k w) d.0)
+                (map_of A W B X M terms (suc k)) (minimal_is.exact k l)
+                (λ j. unit q (U.size (vertex_in (vertices_at terms (suc k)) j)) (get_or (canonical_columns (sub_rep U)) j zero))
+                (λ j h. chosen_rows (suc k) U d.1 j h ∙ sym (map_of-value A W B X M terms (suc k) j h)) (minimal_is.minimal (suc k) l),
+          ),
+        )
 
     pub minimal_of_choice : IsMinimal W X terms n
     minimal_of_choice k l = chosen_independent k l (c k l)

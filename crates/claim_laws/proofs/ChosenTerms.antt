@@ -1,6 +1,5 @@
 -- Terms with canonical generators are a minimal resolution.
-use Rattle.std.proofs.Common.{ℕ, zero, suc, ◌<◌, ◌≤◌, ◌≡◌, List, length, sym, ◌∙◌, subst}
-use mathlib.Core.Path.{fun_ext}
+use Rattle.std.proofs.Common.{ℕ, zero, suc, ◌≡◌, List, sym, ◌∙◌, subst}
 use Rattle.linear_algebra.specs.Field.{Gf}
 use Rattle.linear_algebra.specs.Matrix.{Mat}
 use Rattle.linear_algebra.specs.Rank.{IsInSpan}
@@ -12,12 +11,12 @@ use Rattle.representations.specs.Hom.{Hom}
 use Rattle.representations.specs.Kernel.{kernel}
 use Rattle.projectives.specs.Words.{Words, IsWordBasis}
 use Rattle.projectives.specs.ReducedSubmodule.{reduced_kernel}
-use Rattle.projectives.specs.CanonicalCover.{vertex_in, projectives_at, IsCanonicalCover}
-use Rattle.projectives.specs.Resolutions.{IsMinimalResolution, IsCanonicalResolution, covered}
+use Rattle.projectives.specs.CanonicalCover.{projectives_at, IsCanonicalCover}
+use Rattle.projectives.specs.Resolutions.{IsCanonicalResolution, covered}
 use Rattle.projectives.proofs.ReducedSubmodules.{canonical_of_reduced}
 use Rattle.projectives.proofs.Resolutions.{canonical_minimal}
 use Rattle.module_types.specs.declared.TermRows.{TermRows}
-use Rattle.claim_conditions.specs.Terms.{vertices_at, goes_to, printed_row, printed_matrix}
+use Rattle.claim_conditions.specs.Terms.{vertices_at, printed_matrix}
 use Rattle.claim_conditions.specs.KernelParts.{kernel_rows, IsClosed, kernel_part}
 use Rattle.claim_conditions.specs.ResolutionConditions.{OfCovered, AreCanonicalIn, IsChosen}
 use Rattle.claim_conditions.specs.Resolutions.{AreResolution}

@@ -1,5 +1,5 @@
 -- The conditions on a decomposition suffice, and each decomposition in order meets them.
-use Rattle.std.proofs.Common.{ℕ, ◌≡◌, ◌<◌, List, length, get_or, refl, sym, ap, ap₂, ◌∙◌}
+use Rattle.std.proofs.Common.{List, get_or, refl, sym, ap₂, ◌∙◌}
 use Rattle.std.specs.Prelude.{All}
 use Rattle.linear_algebra.specs.Matrix.{◌·◌}
 use Rattle.fp_linear.specs.Matrix.{PlainMatrix}

@@ -1,6 +1,4 @@
 -- The conditions on a basis of homomorphisms suffice, and each such basis in reduced row form meets them.
-use Rattle.std.proofs.Common.{ℕ, ◌≡◌}
-use Rattle.linear_algebra.specs.RowForm.{IsRowReduced}
 use Rattle.fp_linear.specs.Matrix.{PlainMatrix}
 use Rattle.path_algebra.specs.declared.Header.{Header}
 use Rattle.representations.proofs.HomsBySize.{hom_basis_by_rank, member_meets, rank_of_hom_basis}

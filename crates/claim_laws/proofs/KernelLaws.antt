@@ -1,5 +1,5 @@
 -- The conditions on a kernel and on a cokernel suffice, and each kernel and cokernel in reduced form meets them.
-use Rattle.std.proofs.Common.{ℕ, ◌≡◌, List, refl, sym, ◌∙◌}
+use Rattle.std.proofs.Common.{List, refl, sym}
 use Rattle.fp_linear.specs.Matrix.{PlainMatrix}
 use Rattle.path_algebra.specs.declared.Header.{Header}
 use Rattle.representations.proofs.KernelsBySize.{kernel_by_reduced, cokernel_by_coreduced}

@@ -1,5 +1,5 @@
 -- The conditions on a radical suffice, and each radical by an embedding in reduced row form meets them.
-use Rattle.std.proofs.Common.{ℕ, ◌≡◌, List, refl, subst}
+use Rattle.std.proofs.Common.{List, refl, subst}
 use Rattle.linear_algebra.specs.Matrix.{Mat}
 use Rattle.linear_algebra.specs.Rank.{IsInSpan}
 use Rattle.linear_algebra.proofs.RowForm.{reduced_independent}

@@ -1,6 +1,5 @@
 -- A map and a module, read on the side of another module that is theirs.
-use Rattle.std.proofs.Common.{ℕ, ◌≡◌, ◌<◌, List, length, get_or, sym, subst}
-use Rattle.std.specs.Prelude.{All}
+use Rattle.std.proofs.Common.{◌≡◌, List, sym, subst}
 use Rattle.fp_linear.specs.Matrix.{PlainMatrix}
 use Rattle.path_algebra.specs.declared.Header.{Header}
 use Rattle.representations.specs.Rep.{IsMod}
@@ -8,7 +7,7 @@ use Rattle.local_modules.specs.Local.{IsLocal}
 use Rattle.module_types.specs.declared.Module.{Module}
 use Rattle.module_types.specs.declared.Side.{Side}
 use Rattle.module_types.specs.Algebras.{algebra_at}
-use Rattle.module_types.specs.Readings.{rep_of, read, read_beside, family_of, IsHom}
+use Rattle.module_types.specs.Readings.{rep_of, family_of, IsHom}
 use Rattle.claim_conditions.specs.Modules.{ModuleHolds, MapHolds}
 use Rattle.claim_conditions.specs.Locals.{LocalHolds}
 

@@ -1,6 +1,6 @@
 -- The homomorphisms that take the generators of the terms to the printed rows: their matrices are the printed ones, and each homomorphism with these values
 -- is one of them.
-use Rattle.std.proofs.Common.{ℕ, zero, suc, ◌<◌, ◌≤◌, ◌≡◌, List, sym, ◌∙◌}
+use Rattle.std.proofs.Common.{ℕ, zero, suc, ◌<◌, ◌≡◌, List, sym, ◌∙◌}
 use Rattle.linear_algebra.specs.Field.{Gf}
 use Rattle.representations.specs.Quiver.{BoundQuiver}
 use Rattle.representations.specs.Rep.{Rep, IsMod}

@@ -1,15 +1,14 @@
 -- Terms that are exact by ranks, with generators that are independent modulo the radical of what they cover, are a minimal resolution.
-use Rattle.std.proofs.Common.{ℕ, zero, suc, ◌+◌, ◌<◌, ◌≤◌, ◌≡◌, List, length, inl, inr, refl, sym, ap, ap₂, ◌∙◌, subst, arith}
+use Rattle.std.proofs.Common.{ℕ, zero, suc, ◌+◌, ◌<◌, ◌≤◌, ◌≡◌, List, length, inl, inr, refl, sym, ap, ap₂, ◌∙◌, arith}
 use Rattle.std.proofs.lemmas.Bool.{cases_lt}
 use Rattle.linear_algebra.specs.Field.{Gf}
-use Rattle.linear_algebra.specs.Matrix.{Mat, Row, Mat-eq, zeros, one, ◌·◌}
-use Rattle.linear_algebra.specs.Rank.{IsInSpan, IsSurjective}
+use Rattle.linear_algebra.specs.Matrix.{Mat, Mat-eq, zeros, ◌·◌}
 use Rattle.linear_algebra.proofs.MatrixLaws.{mul_assoc_mat, mul_zeros, mul_one_mat}
 use Rattle.linear_algebra.proofs.Blocks.{no_rows}
-use Rattle.linear_algebra.proofs.Solving.{in_span_trans, in_span_mul}
+use Rattle.linear_algebra.proofs.Solving.{in_span_trans}
 use Rattle.linear_algebra.proofs.Exactness.{exact_by_ranks, cokernel_by_size}
 use Rattle.linear_algebra.specs.Ranks.{rank}
-use Rattle.linear_algebra.proofs.Dimension.{rank_is, complement, kernel_spans}
+use Rattle.linear_algebra.proofs.Dimension.{complement, kernel_spans}
 use Rattle.linear_algebra.proofs.RankExists.{rank_factorisation}
 use Rattle.linear_algebra.proofs.RowForm.{reduced_form}
 use Rattle.representations.specs.Quiver.{Quiver, BoundQuiver}
@@ -17,20 +16,19 @@ use Rattle.representations.specs.Rep.{Rep, IsMod}
 use Rattle.representations.specs.Hom.{Hom, zero_hom}
 use Rattle.representations.specs.Sum.{zero_rep}
 use Rattle.representations.specs.Module.{IsEpi, IsExact}
-use Rattle.representations.specs.Submodule.{Submodule, sub_rep, inclusion}
+use Rattle.representations.specs.Submodule.{inclusion}
 use Rattle.representations.proofs.Submodules.{inclusion_mono}
 use Rattle.projectives.specs.Words.{Words, IsWordBasis}
 use Rattle.projectives.specs.Covers.{KernelInRadical}
 use Rattle.projectives.specs.ReducedSubmodule.{whole}
 use Rattle.projectives.specs.CanonicalCover.{vertex_in, projectives_at}
-use Rattle.projectives.specs.Resolutions.{IsMinimalResolution}
 use Rattle.projectives.proofs.KernelCovers.{kernel_minimal_of_independent}
 use Rattle.module_types.specs.declared.TermRows.{TermRows}
-use Rattle.claim_conditions.specs.Terms.{vertices_at, goes_to, printed_row, printed_matrix}
+use Rattle.claim_conditions.specs.Terms.{vertices_at, printed_matrix}
 use Rattle.claim_conditions.specs.KernelParts.{kernel_rows, IsClosed, kernel_part}
 use Rattle.claim_conditions.specs.ResolutionConditions.{OfCovered, AreIndependentIn, IsComplex, IsOntoByRanks, IsExactByRanks, IsMinimal}
 use Rattle.claim_conditions.specs.Resolutions.{AreResolution}
-use Rattle.claim_laws.proofs.TermMaps.{map_of, map_of-at, map_of-value, read_sequence}
+use Rattle.claim_laws.proofs.TermMaps.{map_of, map_of-at, map_of-value}
 
 no_columns : {q : Gf} {m n : ℕ} (a b : Mat q m n) → n ≡ 0 → a ≡ b
 no_columns a b e = Mat-eq a b (λ i j. a.fits.right i j (omega arith) ∙ sym (b.fits.right i j (omega arith)))
