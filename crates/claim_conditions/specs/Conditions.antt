@@ -29,3 +29,8 @@ IsFirstFailing conditions which = (k : ℕ) × FailsAt conditions which k
 abbrev pub IsAnswer : List Condition → Option Clause → Type 0
 IsAnswer conditions None = AllHold conditions
 IsAnswer conditions (Some which) = IsFirstFailing conditions which
+
+-- their names
+abbrev pub names : List Condition → List Clause
+names [] = []
+names (c ∷ rest) = c.name ∷ names rest
