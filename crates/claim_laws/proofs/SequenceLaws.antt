@@ -157,5 +157,5 @@ module _ (named other : Type 0) (h : Header) (T : Sides h) (n e a : Module) (f g
         second = hom_by E M (family_of E M g) second;
         second_matrices = λ w. refl;
         is = is_almost_split (sided_words a.side T) p N E M f g s k.1.1.1.0 k.1.1.1.1.0 k.1.1.1.1.1.0 first second m (local_suffices h a basis ideal other power residue c d)
-            (presentation_holds (sided_words a.side T) M terms R) k.1.0 (endomorphism_basis h a basis ideal c) (certificate_of h a basis ideal other power residue c d) k.1.1.0;
+            (presentation_holds (sided_words a.side T) M terms R) k.1.0 (endomorphism_basis h a basis c) (certificate_of h a basis ideal other power residue c d) k.1.1.0;
       }

@@ -28,7 +28,9 @@ ghost use Rattle.claim_conditions.specs.Decompositions.{DecompositionHolds};
 ghost use Rattle.claim_conditions.specs.DecompositionConditions.{HaveSideOf, AreInOrder, decomposition_conditions};
 ghost use Rattle.claim_conditions.specs.Translates.{presentation_of, transposed_term, read_across, TauHolds, TransposeHolds, TauiHolds};
 ghost use Rattle.claim_conditions.specs.TranslateConditions.{tau_conditions, transpose_conditions, taui_conditions};
-ghost use Rattle.claim_conditions.specs.LocalConditions.{ring_rows, ideal_rows};
+ghost use Rattle.claim_conditions.specs.LocalConditions.{ring_rows, ideal_rows, local_conditions};
+ghost use Rattle.claim_conditions.specs.Locals.{LocalHolds};
+ghost use Rattle.claim_conditions.specs.declared.Residue.{Residue};
 ghost use Rattle.claim_conditions.specs.SequenceConditions.{SequenceRows, HaveSequenceSides, IsNotProjective, IsEndFunctional, around, sequence_conditions};
 ghost use Rattle.claim_laws.specs.Pullbacks.{pullback_hom};
 
@@ -90,4 +92,10 @@ pub fn computed_sequences()
         → f ≫ j ≡ i ≫ into_first (injective_term (sided_words a.side T) (presentation_of terms).syzygy) (read h a)
         → g ≡ j ≫ onto_second (injective_term (sided_words a.side T) (presentation_of terms).syzygy) (read h a)
         → AllHold (sequence_conditions ⊤ h T n e a first second terms basis ideal s) }
+{}
+
+/// Over a basis of its endomorphisms a local module has an ideal, a power of it and a form of the residue ring that meet the conditions.
+pub fn certified_locals()
+    ensures { (h : Header) (m : Module) (basis : PlainMatrix) → AllHold (hom_conditions h m m basis) → LocalHolds h m
+        → (ideal : PlainMatrix) × (power : ℕ) × (residue : Residue) × AllHold (local_conditions ⊤ h m basis ideal power residue) }
 {}
