@@ -3,7 +3,10 @@ pub mod ChosenTerms
 pub mod DecompositionLaws
 pub mod ExtensionLaws
 pub mod FirstFailing
+pub mod FunctionalColumns
 pub mod Functionals
+pub mod FunctionalsExist
+pub mod GeneratorImages
 pub mod HomLaws
 pub mod KernelLaws
 pub mod LocalLaws

@@ -32,6 +32,7 @@ ghost use Rattle.claim_conditions.specs.LocalConditions.{ring_rows, ideal_rows, 
 ghost use Rattle.claim_conditions.specs.Locals.{LocalHolds};
 ghost use Rattle.claim_conditions.specs.declared.Residue.{Residue};
 ghost use Rattle.claim_conditions.specs.SequenceConditions.{SequenceRows, HaveSequenceSides, IsNotProjective, IsEndFunctional, around, sequence_conditions};
+ghost use Rattle.claim_conditions.specs.Resolutions.{ResolutionHolds};
 ghost use Rattle.claim_laws.specs.Pullbacks.{pullback_hom};
 
 /// A basis of homomorphisms in reduced row form meets the conditions.
@@ -98,4 +99,12 @@ pub fn computed_sequences()
 pub fn certified_locals()
     ensures { (h : Header) (m : Module) (basis : PlainMatrix) → AllHold (hom_conditions h m m basis) → LocalHolds h m
         → (ideal : PlainMatrix) × (power : ℕ) × (residue : Residue) × AllHold (local_conditions ⊤ h m basis ideal power residue) }
+{}
+
+/// Over a certified local module that is not projective there is a functional as it is asked.
+pub fn functionals_exist()
+    ensures { (h : Header) (T : Sides h) (a : Module) (terms : List TermRows) (basis ideal : PlainMatrix) (power : ℕ) (residue : Residue) → ModuleHolds h a
+        → ResolutionHolds h T a terms 1 → AllHold (hom_conditions h a a basis) → AllHold (local_conditions ⊤ h a basis ideal power residue)
+        → IsNotProjective (sided_words a.side T) (presentation_of terms)
+        → (functional : List ℕ) × IsEndFunctional (sided_words a.side T) (presentation_of terms) (read h a) functional (ring_rows h a basis) (ideal_rows h basis ideal) }
 {}
