@@ -1,4 +1,4 @@
--- The normal words of a header as a basis of its algebra by words, on both sides: what an arrow makes of a word is a normal form, entry by entry.
+-- The normal words as a basis on both sides. A word and an arrow, in either order, is a combination of words: its normal form.
 -- (Assem, Simson, Skowroński, volume 1, chapter II, 1 and 2, and III, 2; normal forms are Green's.)
 use Rattle.std.specs.Prelude.{ℕ, List}
 use Rattle.linear_algebra.specs.Matrix.{Mat, made}

@@ -19,7 +19,8 @@ pub record AreZeroByTerms (h : Header) (m n : ℕ) (matrix : Path → Mat h.fiel
       → sum_over h.field rel.terms (λ t. if nat_lt (path_length t.path) h.bound then mul h.field t.coef ((matrix t.path).at x y) else 0) ≡ 0
   pub long : (p : Path) → IsPath h.quiver p → path_length p ≡ h.bound → matrix p ≡ zeros h.field m n
 
--- So it is for the matrices of the paths from v to w on X, for all v and w: on a right module, and on a left module.
+-- X is a right module by terms: for all v and w the matrices of the paths from v to w have this property. The same for a left module, where the matrix of
+-- such a path goes from w to v.
 abbrev pub IsModuleByTerms : (h : Header) → Rep h.field (quiver_of h.quiver) → Type 0
 IsModuleByTerms h X = (v w : ℕ) → AreZeroByTerms h (X.dim v) (X.dim w) (path_matrix h.quiver X v w)
 

@@ -13,7 +13,7 @@ ghost use Rattle.bound_algebra.specs.TypedPaths.{quiver_of, arrows_of, path_of, 
 ghost use Rattle.bound_algebra.specs.BoundAlgebra.{term_at, relation_at, relation_of};
 
 /// The two forms of paths: the path of a list of arrows that lead from v to w has those arrows; two paths from v to w with the same arrows are
-/// equal; and the arrows of each path lead from v to w, or it goes along a number that is no arrow, and acts as zero on each
+/// equal; and the arrows of each path of the theory from v to w lead from v to w, or the path acts as zero on each
 /// representation. (Chapter II, 1.)
 pub fn paths_by_arrows()
     ensures arrows { (Q : Quiver) (v : ℕ) (xs : List ℕ) (w : ℕ) (l : Leads Q v xs w) → arrows_of (path_of Q v xs w l) ≡ xs }

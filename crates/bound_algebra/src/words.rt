@@ -26,7 +26,8 @@ pub fn normal_words_exist()
 {}
 
 /// The normal words are a basis of the algebra of the header, and reversed one of the opposite algebra: so they make the two sides that the
-/// laws of projective and injective modules, of translates and of almost split sequences are about. (Chapter II, 1 and 2.)
+/// laws of projective and injective modules, of translates and of almost split sequences are about. On each side the trivial path is the first
+/// word from its vertex to itself. (Chapter II, 1 and 2.)
 pub fn normal_words_are_two_sided()
     ensures basis { (h : Header) (ok : IsAllowed h) (words : List Path) (w : AreNormalWords h words)
         → IsWordBasis (bound_algebra h) (algebra_words h ok words w) }
@@ -34,6 +35,9 @@ pub fn normal_words_are_two_sided()
         → IsWordBasis (opposite_algebra (bound_algebra h)) (opposite_words h ok words w) }
     ensures two_sides { (h : Header) (ok : IsAllowed h) (words : List Path) (w : AreNormalWords h words)
         → (T : TwoSided h.field (bound_algebra h)) × (T.words ≡ algebra_words h ok words w) × (other T ≡ opposite_words h ok words w) }
+    ensures trivial_first { (h : Header) (ok : IsAllowed h) (words : List Path) (w : AreNormalWords h words)
+        → (T : TwoSided h.field (bound_algebra h)) × (T.words ≡ algebra_words h ok words w) × (other T ≡ opposite_words h ok words w)
+        × ((v : ℕ) → T.basis.place v ≡ 0) × ((v : ℕ) → T.opposite_basis.place v ≡ 0) }
 {}
 
 /// The i-th word from v to w is the i-th of the normal words that lead from v to w.

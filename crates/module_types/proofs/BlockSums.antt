@@ -1,7 +1,8 @@
 -- The block sum is read as the direct sum, it has the shape of a module, and it is a module where its summands are.
-use Rattle.std.proofs.Common.{ℕ, zero, suc, ◌≡◌, ◌<◌, ◌≤◌, ◌+◌, List, [], ◌∷◌, ◌++◌, length, slice_index, refl, sym, ap, ap₂, ◌∙◌, subst, arith, length-append}
+use Rattle.std.proofs.Common.{ℕ, zero, suc, ◌≡◌, ◌<◌, ◌≤◌, ◌+◌, List, [], ◌∷◌, ◌++◌, length, get_or, slice_index, Contains, refl, sym, ap, ap₂, ◌∙◌, subst, arith, length-append}
 use Rattle.std.proofs.Math.Seq.{get_or-append_seam}
 use Rattle.std.proofs.Math.ListN.{get_or-append}
+use Rattle.std.proofs.lemmas.List.Elements.{Contains-get_or}
 use Rattle.linear_algebra.specs.Field.{Gf}
 use Rattle.linear_algebra.specs.Matrix.{join}
 use Rattle.linear_algebra.specs.BlockFamilies.{total}
@@ -84,6 +85,10 @@ module _ (q : Gf) (Q : Quiver) where
   unfolding block_sum_of
   rep_of-block_sum_of side parts = rep_of-written side (sum_family (length parts) (part_at q Q side parts))
 
+  pub block_sum_of-side : (side : Side) (parts : List Module) → (block_sum_of q Q side parts).side ≡ side
+  unfolding block_sum_of
+  block_sum_of-side side parts = refl
+
   -- no parts, and one part more
   pub block_sum_of-none : (side : Side) → block_sum_of q Q side [] ≡ written side (zero_rep q Q)
   unfolding block_sum_of sum_family
@@ -117,3 +122,12 @@ pub block_sum_over : (h : Header) (a b : Module) → a.side ≡ b.side → IsMod
 unfolding block_sum
 block_sum_over h a b e m n =
     block_sum-module (algebra_at a.side h) a b m (subst (λ s. IsMod (algebra_at s h) (rep_of h.field (algebra_at s h).quiver b)) (sym e) n)
+
+-- The block sum of a list whose members are modules of the given side is one of that side.
+pub block_sum_of_over : (h : Header) (side : Side) (parts : List Module) → ((m : Module) → Contains parts m → (m.side ≡ side) × IsModuleOver h m)
+    → IsModuleOver h (block_sum_of h.field (algebra_at side h).quiver side parts)
+unfolding block_sum_of
+block_sum_of_over h side parts e = block_sum_of-module (algebra_at side h) side parts (λ i l.
+    let none = written side (zero_rep h.field (algebra_at side h).quiver) in
+    let s = e (get_or parts i none) (Contains-get_or parts i none l) in
+    subst (λ t. IsMod (algebra_at t h) (rep_of h.field (algebra_at t h).quiver (get_or parts i none))) s.0 s.1)

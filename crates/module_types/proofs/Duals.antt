@@ -8,7 +8,7 @@ use Rattle.representations.specs.Quiver.{Quiver, opposite, BoundQuiver, opposite
 use Rattle.representations.specs.Rep.{Rep, IsMod}
 use Rattle.representations.specs.Dual.{dual}
 use Rattle.representations.proofs.Duals.{dual_dual, IsMod-dual}
-use Rattle.projectives.specs.TwoSided.{TwoSided, relations_back}
+use Rattle.projectives.specs.TwoSided.{TwoSided, other, swap, relations_back, paths_back}
 use Rattle.bound_algebra.specs.BoundAlgebra.{bound_algebra}
 use Rattle.module_types.specs.declared.Side.{Side}
 use Rattle.module_types.specs.declared.Side.TheVariants.{Right, Left}
@@ -33,6 +33,10 @@ quiver_across Left A = refl
 pub words_across : {q : Gf} {A : BoundQuiver} (s : Side) (T : TwoSided q A) → (sided_words s T).words ≡ words_at s T
 words_across Right T = refl
 words_across Left T = refl
+
+-- The other side's words of the sides exchanged are the words themselves.
+pub other_swap : {q : Gf} {A : BoundQuiver} (T : TwoSided q A) → other (swap T) ≡ T.words
+other_swap T = λ k. record { count = T.words.count; word = sym (paths_back T.words) k; act = T.words.act; past = T.words.past }
 
 -- A representation is a module where its dual is one.
 pub IsMod-of_dual : {q : Gf} (A : BoundQuiver) (X : Rep q A.quiver) → IsMod (opposite_algebra A) (dual X) → IsMod A X

@@ -2,6 +2,7 @@ pub mod BlockSums
 pub mod Duals
 pub mod Flattening
 pub mod Presentations
+pub mod Readings
 pub mod SimpleModules
 pub mod TermCoordinates
 pub mod TermMatrices

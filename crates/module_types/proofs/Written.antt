@@ -18,7 +18,7 @@ use Rattle.representations.proofs.RepEqual.{Rep-eq}
 use Rattle.module_types.specs.declared.Side.{Side}
 use Rattle.module_types.specs.declared.Module.{Module}
 use Rattle.module_types.specs.Readings.{dim_at, dim_past, rows_at, rep_of}
-use Rattle.module_types.specs.Shapes.{HasShape, IsModule, dimension}
+use Rattle.module_types.specs.Shapes.{HasShape, HasModuleShape, IsModule, module_shape, dimension}
 use Rattle.module_types.specs.Written.{written}
 
 -- the dimension at a vertex that there is
@@ -112,9 +112,9 @@ same_matrix q m n a rows s e = λ k. record {
     grid : IsGrid q m n a.rows
     grid = subst (λ q. IsGrid q m n a.rows) s.field (subst (λ m. IsGrid a.field m n a.rows) s.row_count (subst (λ n. IsGrid a.field a.row_count n a.rows) s.col_count s.matrix.grid))
 
--- A module that has the shape is what its reading is written as.
-pub written-rep_of : (q : Gf) (Q : Quiver) (m : Module) → IsModule q Q m → written m.side (rep_of q Q m) ≡ m
-written-rep_of q Q m s = λ k. record { side = m.side; dims = sym dims k; matrices = sym matrices k }
+-- A module that has the shape, of whatever dimension, is what its reading is written as.
+pub written-rep_of_shape : (q : Gf) (Q : Quiver) (m : Module) → HasModuleShape q Q m → written m.side (rep_of q Q m) ≡ m
+written-rep_of_shape q Q m s = λ k. record { side = m.side; dims = sym dims k; matrices = sym matrices k }
   where
     dims : m.dims ≡ list_of Q.vertices (dim_at Q m.dims)
     dims = list_of-is Q.vertices (dim_at Q m.dims) m.dims 0 s.counted (λ v l. sym (dim_at-below Q m.dims v l))
@@ -126,3 +126,9 @@ written-rep_of q Q m s = λ k. record { side = m.side; dims = sym dims k; matric
     matrices = list_of-is Q.arrows _ m.matrices none s.matrices.counted (λ a l.
         same_matrix q (dim_at Q m.dims (Q.source a)) (dim_at Q m.dims (Q.target a)) (get_or m.matrices a none) (rows_at m.matrices a) (s.matrices.each a none l)
         (get_or-map (λ (m : PlainMatrix). m.rows) m.matrices a none [] (subst (λ n. a < n) (sym s.matrices.counted) l)))
+
+pub written-rep_of : (q : Gf) (Q : Quiver) (m : Module) → IsModule q Q m → written m.side (rep_of q Q m) ≡ m
+written-rep_of q Q m s = written-rep_of_shape q Q m (module_shape s)
+
+pub shape-small : (q : Gf) (Q : Quiver) (m : Module) → HasModuleShape q Q m → dimension m.dims ≤ 256 → IsModule q Q m
+shape-small q Q m s h = record { counted = s.counted; small = h; matrices = s.matrices }

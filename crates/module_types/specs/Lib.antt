@@ -1,6 +1,7 @@
 pub mod Algebras
 pub mod Flattening
 pub mod Presentations
+pub mod PrintedModules
 pub mod Readings
 pub mod Shapes
 pub mod SimpleModules

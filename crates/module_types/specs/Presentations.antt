@@ -23,7 +23,8 @@ pub record Presentation : Type 0 where
   pub cover : TermRows
   pub syzygy : TermRows
 
--- a map between two sums of projective modules, as that of a presentation
+-- A map between two sums of projective modules, as that of a presentation. Of term 0 only the vertices count, it has no rows here. A map of a side is
+-- read over `sided_words side T`.
 abbrev pub presented : ProjMap → Presentation
 presented d = record { cover = record { vertices = d.to; images = [] }; syzygy = record { vertices = d.from; images = d.images } }
 

@@ -1,5 +1,5 @@
 -- Printed modules and maps read as representations and homomorphisms. Each list of numbers is read, whatever it is: places that it does not have
--- are zero, and numbers are taken modulo the order of the field. (Assem, Simson, Skowroński, volume 1, chapter III, 1.)
+-- are zero, and entries are taken modulo the order of the field. (Assem, Simson, Skowroński, volume 1, chapter III, 1.)
 use Rattle.std.specs.Prelude.{ℕ, zero, ◌≡◌, ◌≤◌, List, [], map, slice_index, slice_index_or}
 use Rattle.std.proofs.Common.{cond, ltb, le-ltb}
 use Rattle.std.proofs.lemmas.Bool.{cond-false}
@@ -34,14 +34,15 @@ rep_of q Q m = record {
   past = dim_past Q m.dims;
 }
 
--- A module is read over the quiver of its own side, or of the side of another.
+-- A module is read over the quiver of its own side, or of the side of another, whatever its own is: the caller compares the sides.
 abbrev pub read_beside : (h : Header) (a m : Module) → Rep h.field (algebra_at a.side h).quiver
 read_beside h a m = rep_of h.field (algebra_at a.side h).quiver m
 
 abbrev pub read : (h : Header) (m : Module) → Rep h.field (algebra_at m.side h).quiver
 read h m = read_beside h m m
 
--- It is a module over the algebra of the header, on its side.
+-- What it is read as is a module over the algebra of the header, on its side. This speaks of the reading alone, and not of the lengths of the lists nor
+-- of the shapes of the matrices.
 abbrev pub IsModuleOver : Header → Module → Type 0
 IsModuleOver h m = IsMod (algebra_at m.side h) (read h m)
 
@@ -49,7 +50,7 @@ IsModuleOver h m = IsMod (algebra_at m.side h) (read h m)
 abbrev pub family_of : {q : Gf} {Q : Quiver} (X Y : Rep q Q) → List PlainMatrix → (v : ℕ) → Mat q (X.dim v) (Y.dim v)
 family_of {q} X Y matrices v = as_mat q (X.dim v) (Y.dim v) (rows_at matrices v)
 
--- Matrices at the vertices are a homomorphism.
+-- Matrices at the vertices are a homomorphism. Both are representations of one quiver; the caller compares the sides of the modules.
 abbrev pub IsHom : {q : Gf} {Q : Quiver} (X Y : Rep q Q) → ((v : ℕ) → Mat q (X.dim v) (Y.dim v)) → Type 0
 IsHom {Q = Q} X Y f = (a : ℕ) → X.mat a · f (Q.target a) ≡ f (Q.source a) · Y.mat a
 

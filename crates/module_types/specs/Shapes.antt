@@ -29,13 +29,23 @@ dimension dims = total (length dims) (slice_index dims)
 abbrev pub most_dimension : ℕ
 most_dimension = 256
 
--- a module over the quiver
+-- The lists of a module over the quiver, of any dimension: as many dimensions as vertices, and as many matrices as arrows, each with the rows and the
+-- columns of its arrow.
+pub record HasModuleShape (q : Gf) (Q : Quiver) (m : Module) : Type 0 where
+  pub counted : length m.dims ≡ Q.vertices
+  pub matrices : AreMatrices q Q.arrows (λ a. dim_at Q m.dims (Q.source a)) (λ a. dim_at Q m.dims (Q.target a)) m.matrices
+
+-- such lists, of at most the largest dimension
 pub record IsModule (q : Gf) (Q : Quiver) (m : Module) : Type 0 where
   pub counted : length m.dims ≡ Q.vertices
   pub small : dimension m.dims ≤ most_dimension
   pub matrices : AreMatrices q Q.arrows (λ a. dim_at Q m.dims (Q.source a)) (λ a. dim_at Q m.dims (Q.target a)) m.matrices
 
--- matrices of a map from one module to another
+-- The shape alone, without the limit.
+abbrev pub module_shape : {q : Gf} {Q : Quiver} {m : Module} → IsModule q Q m → HasModuleShape q Q m
+module_shape s = record { counted = s.counted; matrices = s.matrices }
+
+-- Matrices of a map from one module to another. Whether the two have one side is not asked here: the caller compares the sides.
 abbrev pub IsMap : (q : Gf) (Q : Quiver) → Module → Module → List PlainMatrix → Type 0
 IsMap q Q a b matrices = AreMatrices q Q.vertices (dim_at Q a.dims) (dim_at Q b.dims) matrices
 

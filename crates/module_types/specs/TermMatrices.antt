@@ -23,8 +23,8 @@ unfolding sum_family
 rows_along {q} W X zero v x w = zeros q zero (X.dim w)
 rows_along W X (suc k) v x w = stack (rows_along W X k v x w) (of_rows (W.count (v k) w) (λ i. x k · along_word W X (v k) w i))
 
--- Columns y 0, .., y (h − 1) at the vertices u 0, .., u (h − 1): at w, for each j and each word p from w to u j the column p · y j, one behind the other;
--- the same on the other side, turned round.
+-- Columns y 0, .., y (h − 1) at the vertices u 0, .., u (h − 1): at w, for each j and each word p from w to u j the column p · y j, one beside the other;
+-- the same on the other side, transposed.
 unfoldable pub columns_along : {q : Gf} {A : BoundQuiver} (T : TwoSided q A) (X : Rep q A.quiver) (h : ℕ) (u : ℕ → ℕ) (y : (j : ℕ) → Column q (X.dim (u j))) (w : ℕ) → Mat q (X.dim w) ((injectives T h u).dim w)
 columns_along T X h u y w = transpose (rows_along (other T) (dual X) h u (λ j. transpose (y j)) w)
 

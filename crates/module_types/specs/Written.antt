@@ -22,7 +22,7 @@ written {q} {Q} side X = record {
   matrices = list_of Q.arrows (λ a. plain q (X.dim (Q.source a)) (X.dim (Q.target a)) (grid_of (X.mat a)));
 }
 
--- The rows of a module of the quiver q Q, of what side it may be.
+-- Modules over the quiver Q, of whatever side.
 module _ (q : Gf) (Q : Quiver) where
   -- the block sum of two modules: at each vertex the coordinates of a before those of b, at each arrow the two matrices as blocks on the diagonal
   unfoldable pub block_sum : Module → Module → Module
@@ -32,7 +32,7 @@ module _ (q : Gf) (Q : Quiver) where
   abbrev pub part_at : Side → List Module → ℕ → Rep q Q
   part_at side parts i = rep_of q Q (slice_index_or parts i (written side (zero_rep q Q)))
 
-  -- the block sum of a list, in its order
+  -- The block sum of a list, in its order. It has the side that is given; that the members have it, the caller compares.
   unfoldable pub block_sum_of : Side → List Module → Module
   block_sum_of side parts = written side (sum_family (length parts) (part_at side parts))
 

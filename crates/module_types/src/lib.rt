@@ -38,7 +38,8 @@ pub struct Map {
     pub matrices: Seq<Matrix>,
 }
 
-/// A term of a resolution, a sum of projective modules at vertices: the vertices of its generators, and for each generator the row that it goes to.
+/// A term of a resolution, a sum of projective modules at vertices: the vertices of its generators, and for each generator the row that it goes to, in
+/// the module that term 0 covers, or in the term before.
 #[derive(Debug, Drop, PartialEq, Eq)]
 pub struct TermRows {
     pub vertices: Seq<u8>,

@@ -1,4 +1,4 @@
-//! Terms of resolutions, and homomorphisms out of them.
+//! Terms of resolutions, and homomorphisms out of them. Chapters are those of Assem, Simson, Skowroński, volume 1.
 
 ghost use Rattle.std.specs.Prelude.{◌≡◌, ◌<◌, ◌≤◌, ◌+◌, ℕ, List};
 ghost use Rattle.linear_algebra.specs.Field.{Gf};
@@ -53,7 +53,7 @@ pub fn rows_along_words()
 {}
 
 /// The coordinates of a homomorphism out of a term are the values of its generators, one after another; and following the next differential is
-/// composition with it. (Chapter III, 2, and appendix A, 4.)
+/// composition with it. On each representation, a module or not, it is multiplication with its matrix. (Chapter III, 2, and appendix A, 4.)
 pub fn coordinates_of_terms()
     ensures of_rows { (q : Gf) (A : BoundQuiver) (W : Words q A.quiver) (B : IsWordBasis A W) (Y : Rep q A.quiver) (M : IsMod A Y) (t : Term)
         (x : (j : ℕ) → Row q (Y.dim (vertex t j)))
@@ -71,4 +71,6 @@ pub fn coordinates_of_terms()
         (d : Hom (sum_of_term W next) (sum_of_term W t))
         → ((i : ℕ) → i < count next → value A W B (count next) (vertex next) d i ≡ generator_row (sum_of_term W t) next i)
         → follow_matrix W Y t next ≡ composition_matrix A W B (count next) (vertex next) (count t) (vertex t) Y M d }
+    ensures linear { (q : Gf) (Q : Quiver) (W : Words q Q) (Y : Rep q Q) (t next : Term) (x : Row q (coordinates Y t))
+        → follow W Y t next x ≡ x · follow_matrix W Y t next }
 {}

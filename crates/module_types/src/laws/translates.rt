@@ -1,4 +1,4 @@
-//! Presentations, transposed maps, functionals and pullbacks.
+//! Presentations, transposed maps, functionals and pullbacks. Chapters are those of Assem, Simson, Skowroński, volume 1.
 
 ghost use Rattle.std.specs.Prelude.{◌≡◌, ◌<◌, ◌+◌, ◌%◌, ℕ, List, slice_index};
 ghost use Rattle.linear_algebra.specs.Field.{Gf, order};
@@ -50,7 +50,7 @@ pub fn functionals()
         → pairing T (count t) (vertex t) (c ≫ x) (hom_of_columns T (count t) (vertex t) M m (part T M t functional)) ≡ value_on T M t functional x.at }
 {}
 
-/// The rows (y, m) of the pullback are those with y · νd = m · θ. (Chapter IV, 1.)
+/// The rows (y, m) of the pullback, which its matrices take to zero, are exactly those with y · νd = m · θ. (Appendix A.)
 pub fn pullbacks()
     ensures equal { (q : Gf) (A : BoundQuiver) (T : TwoSided q A) (M : Rep q A.quiver) (p : Presentation) (functional : List ℕ) (w : ℕ)
         (y : Row q ((injective_term T p.syzygy).dim w)) (m : Row q (M.dim w))

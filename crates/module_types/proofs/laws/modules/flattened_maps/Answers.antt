@@ -1,4 +1,4 @@
-use Rattle.module_types.proofs.Flattening.{flat-hom_by, flat_family-at, flat_read, family_of_flat}
+use Rattle.module_types.proofs.Flattening.{flat-hom_by, flat_family-at, flat_read, family_of_flat, flat_of_family}
 use Rattle.module_types.proofs.laws.modules.flattened_maps.Goals as goal
 
 pub returns-clause-whole : goal.returns-clause-whole
@@ -12,3 +12,6 @@ returns-clause-read c = λ q Q X Y f row r e. flat_read X Y f row r e
 
 pub returns-clause-back : goal.returns-clause-back
 returns-clause-back c = λ q Q X Y f v l. family_of_flat X Y f v l
+
+pub returns-clause-forth : goal.returns-clause-forth
+returns-clause-forth c = λ q Q X Y x. flat_of_family X Y x

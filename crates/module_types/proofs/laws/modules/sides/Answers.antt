@@ -1,4 +1,4 @@
-use Rattle.module_types.proofs.Duals.{other_other, quiver_across, words_across}
+use Rattle.module_types.proofs.Duals.{other_other, quiver_across, words_across, other_swap}
 use Rattle.module_types.proofs.laws.modules.sides.Goals as goal
 
 pub returns-clause-back : goal.returns-clause-back
@@ -9,3 +9,6 @@ returns-clause-across c = λ s A. quiver_across s A
 
 pub returns-clause-words : goal.returns-clause-words
 returns-clause-words c = λ q A s T. words_across s T
+
+pub returns-clause-exchanged : goal.returns-clause-exchanged
+returns-clause-exchanged c = λ q A T. other_swap T

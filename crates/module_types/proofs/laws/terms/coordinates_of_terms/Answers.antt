@@ -1,4 +1,4 @@
-use Rattle.module_types.proofs.TermCoordinates.{coordinates-of_rows, value-of_row, value_in-at, follow_is, follow_matrix_is}
+use Rattle.module_types.proofs.TermCoordinates.{coordinates-of_rows, value-of_row, value_in-at, follow_is, follow_matrix_is, follow-matrix}
 use Rattle.module_types.proofs.laws.terms.coordinates_of_terms.Goals as goal
 
 pub returns-clause-of_rows : goal.returns-clause-of_rows
@@ -15,3 +15,6 @@ returns-clause-following c = λ q A W B Y M t next d printed x. follow_is A W B 
 
 pub returns-clause-matrix : goal.returns-clause-matrix
 returns-clause-matrix c = λ q A W B Y M t next d printed. follow_matrix_is A W B Y M t next d printed
+
+pub returns-clause-linear : goal.returns-clause-linear
+returns-clause-linear c = λ q Q W Y t next x. follow-matrix W Y t next x
