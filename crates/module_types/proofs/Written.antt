@@ -85,21 +85,25 @@ module _ {q : Gf} {Q : Quiver} (side : Side) (X : Rep q Q) where
     | inr l ↦ let p = X.past v l in omega (arith, p)
   ]
 
-  -- The writing of a representation of at most the largest dimension has the shape of a module.
-  pub written-shape : total Q.vertices X.dim ≤ 256 → IsModule q Q (written side X)
-  written-shape h = record {
+  -- The writing of a representation has the shape of a module, where its matrices have few enough entries; so it is up to the largest dimension.
+  pub written-module_shape : ((a : ℕ) → a < Q.arrows → X.dim (Q.source a) * X.dim (Q.target a) ≤ most_entries) → HasModuleShape q Q (written side X)
+  written-module_shape few = record {
     counted = length-list_of Q.vertices X.dim;
-    small = subst (λ n. n ≤ 256) (sym written-dimension) h;
     matrices = record {
       counted = length-list_of Q.arrows matrix_of;
       each = λ a d l. subst (HasShape q (dim_at Q (written side X).dims (Q.source a)) (dim_at Q (written side X).dims (Q.target a))) (sym (get_or-list_of Q.arrows matrix_of a d l)) (record {
-        matrix = record { grid = IsGrid-grid_of (X.mat a); fits = few_entries (X.dim (Q.source a)) (X.dim (Q.target a)) (small_dim h (Q.source a)) (small_dim h (Q.target a)) };
+        matrix = record { grid = IsGrid-grid_of (X.mat a); fits = few a l };
         field = refl;
         row_count = sym (written-dim (Q.source a));
         col_count = sym (written-dim (Q.target a));
       });
     };
   }
+
+  pub written-shape : total Q.vertices X.dim ≤ 256 → IsModule q Q (written side X)
+  written-shape h =
+      let s = written-module_shape (λ a l. few_entries (X.dim (Q.source a)) (X.dim (Q.target a)) (small_dim h (Q.source a)) (small_dim h (Q.target a))) in
+      record { counted = s.counted; small = subst (λ n. n ≤ 256) (sym written-dimension) h; matrices = s.matrices }
 
 same_matrix : (q : Gf) (m n : ℕ) (a : PlainMatrix) (rows : List (List ℕ)) → HasShape q m n a → rows ≡ a.rows → a ≡ plain q m n (grid_of (as_mat q m n rows))
 same_matrix q m n a rows s e = λ k. record {

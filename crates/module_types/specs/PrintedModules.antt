@@ -5,7 +5,7 @@ use Rattle.module_types.specs.Algebras.{algebra_at}
 use Rattle.module_types.specs.Readings.{IsModuleOver}
 use Rattle.module_types.specs.Shapes.{HasModuleShape}
 
--- A printed module, of any dimension: its lists have their lengths and its matrices their shapes, and what it is read as is a module over the algebra of
--- the header, on its side.
+-- A printed module, of any dimension, as far as there are matrices: its lists have their lengths and its matrices their shapes, and what it is read as is
+-- a module over the algebra of the header, on its side.
 abbrev pub IsPrintedModule : Header → Module → Type 0
 IsPrintedModule h m = HasModuleShape h.field (algebra_at m.side h).quiver m × IsModuleOver h m

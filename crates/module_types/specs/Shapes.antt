@@ -29,8 +29,8 @@ dimension dims = total (length dims) (slice_index dims)
 abbrev pub most_dimension : ℕ
 most_dimension = 256
 
--- The lists of a module over the quiver, of any dimension: as many dimensions as vertices, and as many matrices as arrows, each with the rows and the
--- columns of its arrow.
+-- The lists of a module over the quiver, of any dimension of which there are matrices (`IsMatrix`): as many dimensions as vertices, and as many matrices
+-- as arrows, each with the rows and the columns of its arrow.
 pub record HasModuleShape (q : Gf) (Q : Quiver) (m : Module) : Type 0 where
   pub counted : length m.dims ≡ Q.vertices
   pub matrices : AreMatrices q Q.arrows (λ a. dim_at Q m.dims (Q.source a)) (λ a. dim_at Q m.dims (Q.target a)) m.matrices

@@ -1,6 +1,6 @@
 //! Modules and maps. Chapters are those of Assem, Simson, Skowroński, volume 1.
 
-ghost use Rattle.std.specs.Prelude.{◌≡◌, ◌≢◌, ◌<◌, ◌≤◌, ◌+◌, ◌%◌, ◌⊎◌, ℕ, List, [], ◌∷◌, ◌++◌, length, slice_index, Contains};
+ghost use Rattle.std.specs.Prelude.{◌≡◌, ◌≢◌, ◌<◌, ◌≤◌, ◌+◌, ◌*◌, ◌%◌, ◌⊎◌, ℕ, List, [], ◌∷◌, ◌++◌, length, slice_index, Contains};
 ghost use Rattle.linear_algebra.specs.Field.{Gf, order};
 ghost use Rattle.linear_algebra.specs.Matrix.{Mat, Row, join};
 ghost use Rattle.linear_algebra.specs.BlockFamilies.{total};
@@ -14,7 +14,7 @@ ghost use Rattle.representations.specs.Hom.{Hom};
 ghost use Rattle.representations.specs.HomSpace.{unknowns, flat};
 ghost use Rattle.representations.specs.Sum.{zero_rep, sum_rep, sum_family};
 ghost use Rattle.representations.specs.Dual.{dual};
-ghost use Rattle.fp_linear.specs.Matrix.{PlainMatrix};
+ghost use Rattle.fp_linear.specs.Matrix.{PlainMatrix, most_entries};
 ghost use Rattle.module_types.specs.declared.Side.{Side as Hand};
 ghost use Rattle.module_types.specs.declared.Module.{Module as Printed};
 ghost use Rattle.projectives.specs.TwoSided.{TwoSided, other, swap};
@@ -33,11 +33,13 @@ pub fn reading_and_writing()
 {}
 
 /// What is printed has the shape of a module where it has that without the limit, and its dimension is not too large; without the limit too it is what its
-/// reading is written as.
+/// reading is written as. A writing has the shape where its matrices have no more entries than matrices may have.
 pub fn printed_modules()
     ensures shape { (q : Gf) (Q : Quiver) (m : Printed) → IsModule q Q m → HasModuleShape q Q m }
     ensures small { (q : Gf) (Q : Quiver) (m : Printed) → HasModuleShape q Q m → dimension m.dims ≤ 256 → IsModule q Q m }
     ensures write { (q : Gf) (Q : Quiver) (m : Printed) → HasModuleShape q Q m → written m.side (rep_of q Q m) ≡ m }
+    ensures writing { (q : Gf) (Q : Quiver) (side : Hand) (X : Rep q Q) → ((a : ℕ) → a < Q.arrows → X.dim (Q.source a) * X.dim (Q.target a) ≤ most_entries)
+        → HasModuleShape q Q (written side X) }
 {}
 
 /// The dimensions of a reading are the printed ones, and none past the vertices. The entries of its matrices, and of those of a map, are the printed ones
