@@ -10,6 +10,12 @@ pub record IsWalked (paths : List Path) (j : ℕ) (arrows : List ℕ) (k : ℕ) 
   pub start : (path_at paths k).start ≡ (path_at paths j).start
   pub whole : (path_at paths k).arrows ≡ (path_at paths j).arrows ++ arrows
 
+-- the path at place k is the one from the vertex along these arrows
+pub record IsAlong (paths : List Path) (vertex : ℕ) (arrows : List ℕ) (k : ℕ) : Type 0 where
+  pub inside : k < length paths
+  pub start : (path_at paths k).start ≡ vertex
+  pub whole : (path_at paths k).arrows ≡ arrows
+
 -- the place of the path at place j with the arrow behind it, counted from 1; 0 where that is none of the paths
 pub record IsPlaceBehind (paths : List Path) (j a entry : ℕ) : Type 0 where
   pub found : 0 < entry → IsWalked paths j (a ∷ []) (entry - 1)

@@ -1,18 +1,15 @@
 //! The short paths of a quiver, and where each leads when an arrow is put behind it.
-ghost use Rattle.std.specs.Prelude.{ℕ, ◌≡◌, ◌<◌, ◌≤◌, ◌+◌, ◌*◌, ◌++◌, ◌∷◌, [], List, length, Contains, IfOk, OnOk, IfSome, IfNone, slice_index_or};
-ghost use Rattle.quiver_paths.specs.Path.{path_length, concat, arrow_path};
+ghost use Rattle.std.specs.Prelude.{ℕ, ◌≡◌, ◌<◌, ◌≤◌, ◌+◌, ◌*◌, ◌++◌, ◌∷◌, [], List, length, Contains, IfOk, OnOk, IfSome, IfNone};
 ghost use Rattle.quiver_paths.specs.PathOrder.{IsAscending};
 ghost use Rattle.quiver_paths.specs.PathList.{path_count, paths_below, ListsPathsBelow};
 ghost use Rattle.quiver_paths.specs.Quiver.{arrow_count};
 ghost use Rattle.path_algebra.specs.Allowed.{IsAllowed};
 ghost use Rattle.path_algebra.specs.Rows.{path_at};
-ghost use Rattle.path_reduction.specs.ShortPaths.{IsWalked, IsPlaceBehind, AreBehind, StartsAt};
+ghost use Rattle.path_reduction.specs.ShortPaths.{IsWalked, IsAlong, IsPlaceBehind, AreBehind, StartsAt};
 
-use path_algebra::Header;
-use quiver_paths::{Path, PathError, compare, paths_below};
-use seq::Seq;
+use path_algebra::{Header, path_place, then_arrow};
+use quiver_paths::{Path, PathError, paths_below};
 use std::alloc::{AllocError, Global};
-use std::cmp::Ordering;
 use std::marker::Model;
 
 /// The paths shorter than the bound, ascending, and where each leads when an arrow is put behind it. Contracts see the list of the paths.
@@ -76,7 +73,10 @@ impl ShortPaths {
         ensures inside { result < length self.now }
         ensures there { path_at self.now result ≡ path.now }
     {
-        place_of(&self.paths, path)
+        match path_place(&self.paths, path) {
+            Some(place) => place,
+            None => unreachable!(),
+        }
     }
 
     /// The place of the trivial path where the path at a place starts.
@@ -118,7 +118,8 @@ impl ShortPaths {
         Some(next as usize - 1)
     }
 
-    /// The place of the path from a vertex along these arrows, one run behind the other; none where it is no short path. It takes no memory.
+    /// The place of the short path from a vertex along these arrows, one run behind the other; none where no short path is: where there is no such
+    /// vertex, where the arrows do not lead on from it, and where they make a path of the bound's length or more. It takes no memory.
     pub fn place_along(
         &self,
         vertex: u8,
@@ -126,10 +127,14 @@ impl ShortPaths {
         second: &[u8],
         third: &[u8],
     ) -> Option<usize>
-        ensures { IfSome result (λ k. IsWalked self.now vertex (first.now ++ (second.now ++ third.now)) k) }
+        ensures some { IfSome result (λ k. IsAlong self.now vertex (first.now ++ (second.now ++ third.now)) k) }
+        ensures none { IfNone result ((k : ℕ) → IsAlong self.now vertex (first.now ++ (second.now ++ third.now)) k → ⊥) }
     {
         let start = vertex as usize;
         if start >= self.paths.len() {
+            return None;
+        }
+        if self.paths[start].start != vertex {
             return None;
         }
         match self.walk(start, first) {
@@ -228,42 +233,9 @@ fn place_behind(
     if path.arrows.len() + 1 >= header.bound as usize {
         return Ok(0);
     }
-    let longer = then_arrow(alloc, header, path, arrow)?;
-    Ok(place_of(paths, &longer) as u32 + 1)
-}
-
-/// The path with the arrow behind it.
-fn then_arrow(alloc: Global, header: &Header, path: &Path, arrow: u8) -> Result<Path, AllocError>
-    requires arrow { arrow < arrow_count header.now.quiver }
-    requires short { path_length path.now ≤ 64 }
-    ensures { IfOk result (λ p. p ≡ concat path.now (arrow_path header.now.quiver arrow)) }
-{
-    let mut arrows = Vec::with_capacity(alloc, path.arrows.len() + 1)?;
-    arrows.extend_from_slice(path.arrows.as_slice())?;
-    arrows.push(arrow)?;
-    Ok(Path {
-        start: path.start,
-        end: header.quiver.arrows[arrow as usize].to,
-        arrows: Seq::from_vec(arrows),
-    })
-}
-
-/// The place of a path among ascending paths that have it.
-fn place_of(paths: &[Path], path: &Path) -> usize
-    requires ascending { IsAscending paths.now }
-    requires listed { Contains paths.now path.now }
-    ensures inside { result < length paths.now }
-    ensures there { slice_index_or paths.now result path.now ≡ path.now }
-{
-    let mut low = 0;
-    let mut high = paths.len();
-    while low < high {
-        let middle = low + (high - low) / 2;
-        match compare(&paths[middle], path) {
-            Ordering::Less => low = middle + 1,
-            Ordering::Equal => return middle,
-            Ordering::Greater => high = middle,
-        }
+    let longer = then_arrow(alloc, &header.quiver, path, arrow)?;
+    match path_place(paths, &longer) {
+        Some(next) => Ok(next as u32 + 1),
+        None => unreachable!(),
     }
-    low
 }

@@ -1,5 +1,8 @@
 use Rattle.path_basis.proofs.NoGap.{no_gap_reduced}
+use Rattle.path_basis.proofs.Settling.{tidy_reduction}
 use Rattle.path_basis.proofs.laws.no_gap_means_reduced.Goals as goal
 
 pub returns : goal.returns
-returns c = no_gap_reduced
+returns c h rules ok tidy closed member tails =
+    let red = tidy_reduction h rules ok tidy in
+    no_gap_reduced h rules red.becomes ok tidy red.is (closed.no_gap red.becomes red.is) member (λ relation m r. closed.relations relation m red.becomes red.is r) tails

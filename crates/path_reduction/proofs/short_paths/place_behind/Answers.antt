@@ -21,19 +21,19 @@ returns-then-len-header c =
     let read = path_at-read c.args.paths.now c.args.place c.index-paths-place.result c.requires.place c.index-paths-place.is in
     behind_long h.quiver h.bound c.args.paths.now c.requires.paths c.args.place c.args.arrow (omega (arith, c.if-len-header.true, c.len.ensures, ap path_length read))
 
-pub place_of-requires-clause-listed : goal.place_of-requires-clause-listed
-place_of-requires-clause-listed c =
+pub unreachable-requires : goal.unreachable-requires
+unreachable-requires c =
     let h = c.args.header.now in
     let read = path_at-read c.args.paths.now c.args.place c.index-paths-place.result c.requires.place c.index-paths-place.is in
     let from : c.index.result.now.from ≡ source h.quiver c.args.arrow = ap (λ (x : Arrow). x.from) c.index.ensures ∙ sym (source_is h.quiver c.args.arrow c.index.result.now c.requires.arrow) in
-    subst (Contains c.args.paths.now) (ap (λ p. concat p (arrow_path h.quiver c.args.arrow)) (sym read) ∙ sym c.in_ok-longer.ensures)
+    c.in-None.ensures (subst (Contains c.args.paths.now) (ap (λ p. concat p (arrow_path h.quiver c.args.arrow)) (sym read) ∙ sym c.in_ok-longer.ensures)
     (longer_listed h.quiver h.bound c.args.paths.now c.requires.paths c.args.place c.args.arrow c.requires.allowed.quiver.ends c.requires.place c.requires.arrow
-    (sym from ∙ c.if-index-path.false ∙ ap (λ (p : Path). p.end) read) (omega (arith, c.if-len-header.false, c.len.ensures, ap path_length read)))
+    (sym from ∙ c.if-index-path.false ∙ ap (λ (p : Path). p.end) read) (omega (arith, c.if-len-header.false, c.len.ensures, ap path_length read))))
 
 pub returns : goal.returns
 returns c =
     let h = c.args.header.now in
     let read = path_at-read c.args.paths.now c.args.place c.index-paths-place.result c.requires.place c.index-paths-place.is in
-    behind_found h.quiver h.bound c.args.paths.now c.requires.paths c.args.place c.args.arrow c.place_of.result c.place_of.ensures.inside
-    (path_at-is c.args.paths.now c.place_of.result c.in_ok-longer.longer c.place_of.ensures.inside ∙ c.place_of.ensures.there ∙ c.in_ok-longer.ensures
+    behind_found h.quiver h.bound c.args.paths.now c.requires.paths c.args.place c.args.arrow c.in-Some.next c.in-Some.ensures.0
+    (path_at-is c.args.paths.now c.in-Some.next c.in_ok-longer.longer c.in-Some.ensures.0 ∙ c.in-Some.ensures.1 ∙ c.in_ok-longer.ensures
     ∙ ap (λ p. concat p (arrow_path h.quiver c.args.arrow)) read)
