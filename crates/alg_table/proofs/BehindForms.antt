@@ -15,7 +15,7 @@ use Rattle.path_algebra.proofs.SumsOver.{sum_over-same}
 use Rattle.path_algebra.proofs.NormalForms.{normal_form}
 use Rattle.path_algebra.proofs.ClausesSuffice.{AreSound, words_are_normal, rules_are_reduced}
 use Rattle.path_algebra.proofs.ClausesNecessary.{forms_are_reduction, along_path}
-use Rattle.alg_table.proofs.CanActFrom.{reduction_once}
+use Rattle.path_algebra.proofs.ReductionExists.{reduction_once}
 
 module _ (h : Header) (words : List Path) (rules : List Rule) (c : AreSound h words rules) where
   abbrev normal : AreNormalWords h words

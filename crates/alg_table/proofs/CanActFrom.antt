@@ -1,9 +1,8 @@
--- What the first four conditions give, and that reduction is one.
-use Rattle.std.proofs.Common.{ℕ, ◌≡◌, List, sym, ◌∙◌, arith}
+-- What the first four conditions give.
+use Rattle.std.proofs.Common.{List, sym, ◌∙◌, arith}
 use Rattle.std.specs.Prelude.{All}
 use Rattle.std.proofs.lemmas.List.Elements.{All-contains, All-weaker}
 use Rattle.quiver_paths.specs.declared.Path.{Path}
-use Rattle.quiver_paths.specs.Path.{IsPath}
 use Rattle.quiver_paths.specs.PathOrder.{IsSmaller}
 use Rattle.path_algebra.specs.declared.Term.{Term}
 use Rattle.path_algebra.specs.declared.Header.{Header}
@@ -12,15 +11,12 @@ use Rattle.path_algebra.specs.declared.rules.Step.{Step}
 use Rattle.path_algebra.specs.Allowed.{IsAllowed}
 use Rattle.path_algebra.specs.Rules.{rule_element}
 use Rattle.path_algebra.specs.Derivations.{element_at, step_elements}
-use Rattle.path_algebra.specs.Reduction.{IsReduction}
 use Rattle.path_algebra.specs.BasisClauses.{StepsHold, RuleHolds, RulesHold, ReducedHolds, WordsHold, IsBasisClaim}
 use Rattle.word_products.specs.WordProducts.{CanAct}
 use Rattle.path_algebra.proofs.IdealLemmas.{IsInIdeal-same}
 use Rattle.path_algebra.proofs.IdealActs.{IsInIdeal-long}
 use Rattle.path_algebra.proofs.IdealSteps.{steps_are_members}
 use Rattle.path_algebra.proofs.ClausesSuffice.{rule_at_tip}
-use Rattle.path_algebra.proofs.Reducing.{AreRules, by_reduction, rewritten_smaller}
-use Rattle.path_algebra.proofs.ReductionExists.{sum_between-same}
 
 -- arrows can act by rules and words of which the first four conditions hold
 pub can_act : (h : Header) (words : List Path) (steps : List Step) (rules : List Rule) → IsAllowed h → IsBasisClaim h words steps rules
@@ -38,13 +34,3 @@ can_act h words steps rules ok claim s r d w = record {
   reduced = d;
   word = w;
 }
-
--- two reductions make the same of each path of the quiver
-pub reduction_once : (h : Header) (rules : List Rule) → AreRules h rules → (f g : Path → Path → ℕ) → IsReduction h rules f → IsReduction h rules g
-    → (p : Path) → IsPath h.quiver p → (r : Path) → f p r ≡ g p r
-reduction_once h rules k f g a b = by_reduction h rules k (λ p. (r : Path) → f p r ≡ g p r)
-    (λ p hp l r. a.long p hp l r ∙ sym (b.long p hp l r))
-    (λ p s n r. a.stays p s n r ∙ sym (b.stays p s n r))
-    (λ p s o before r. a.rewritten p s o r
-    ∙ sum_between-same h f g o.before o.rule.tail.terms o.behind r (λ t m mu mv. before t m mu mv (rewritten_smaller h rules k p o t m mu mv) r)
-    ∙ sym (b.rewritten p s o r))

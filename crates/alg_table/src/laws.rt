@@ -17,6 +17,8 @@ ghost use Rattle.path_algebra.specs.declared.Header.{Header};
 ghost use Rattle.path_algebra.specs.Allowed.{IsAllowed};
 ghost use Rattle.path_algebra.specs.Words.{IsBasis};
 
+use crate::Table;
+
 /// Reduction by rules whose tails are smaller than their tips makes one thing of each path of the quiver. (Green.)
 pub fn reduction_is_unique()
     ensures { (h : Header) (words : List Path) (rules : List Rule) → CanAct h words rules → (f g : Path → Path → ℕ) → IsReduction h rules f → IsReduction h rules g
@@ -60,3 +62,10 @@ pub fn rows_give_normal_forms()
         → (p : Path) → IsPath h.quiver p → (place : ℕ) → place < length words → path_at words place ≡ trivial_path p.start
         → IsNormalForm h words p (acted_along h.field rows (arrow_count h.quiver) p.arrows (unit (length words) place)) }
 {}
+
+/// Tables cross threads: they may be handed to other threads and shared by them.
+pub fn tables_cross_threads(table: &Table) {
+    crosses_threads(table);
+}
+
+fn crosses_threads<T: Send + Sync>(_value: &T) {}

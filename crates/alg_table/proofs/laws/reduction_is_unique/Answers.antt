@@ -1,5 +1,5 @@
 use Rattle.word_products.proofs.WordRows.{are_rules}
-use Rattle.alg_table.proofs.CanActFrom.{reduction_once}
+use Rattle.path_algebra.proofs.ReductionExists.{reduction_once}
 use Rattle.alg_table.proofs.laws.reduction_is_unique.Goals as goal
 
 pub returns : goal.returns
