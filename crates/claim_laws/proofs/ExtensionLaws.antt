@@ -66,9 +66,9 @@ module _ {q : Gf} (A : BoundQuiver) (W : Words q A.quiver) (B : IsWordBasis A W)
     pub extensions_by_size : AreCocycles W Y terms n E → AreReducedModulo W Y terms n E → AreAllCocycles W Y terms n E → AreExtensions A W B X Y M terms n E
     extensions_by_size k r s =
         let b = rows_by_size A W B Y M (count (term_at terms (suc n))) (vertex (term_at terms (suc n))) (count (term_at terms n)) (vertex (term_at terms n))
-            (count (term_before terms n)) (vertex (term_before terms n)) (R.differential (suc n)) (before A W B X Y M terms n R) (before_zero n R) E (rows_killed k)
-            (subst (λ C. IsReducedModulo C E) (coboundaries_are n R) r)
-            (ap₂ (λ C D. e + rank C + rank D) (sym (coboundaries_are n R)) (sym (cocycles_are A W B X Y M terms n R)) ∙ s) in
+        (count (term_before terms n)) (vertex (term_before terms n)) (R.differential (suc n)) (before A W B X Y M terms n R) (before_zero n R) E (rows_killed k)
+        (subst (λ C. IsReducedModulo C E) (coboundaries_are n R) r)
+        (ap₂ (λ C D. e + rank C + rank D) (sym (coboundaries_are n R)) (sym (cocycles_are A W B X Y M terms n R)) ∙ s) in
         record { resolution = R; basis = record { cocycles = b.cocycles; spans = b.spans; once = b.once } }
 
   module _ (n : ℕ) {e : ℕ} (E : Mat q e (coordinates Y (term_at terms n))) (k : AreExtensions A W B X Y M terms n E) (r : AreReducedModulo W Y terms n E) where
