@@ -1,4 +1,6 @@
--- Conditions that are tried in order, each under its name, and the first of them that fails.
+-- Conditions that are tried in order, each under its name, and the first of them that fails. In the lists of conditions on claims, `named` is what the
+-- numbers of the claim must say: that they name the modules, maps, lengths and claims that belong to it. It is put in where there is a report. Laws over one
+-- claim put ⊤ for it, since the proofs hold for any.
 use Rattle.std.specs.Prelude.{ℕ, zero, suc, ⊤, ◌≡◌, List, [], ◌∷◌, Option, None, Some}
 use Rattle.claim_conditions.specs.declared.Clause.{Clause}
 

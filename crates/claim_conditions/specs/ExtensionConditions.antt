@@ -22,10 +22,11 @@ use Rattle.claim_conditions.specs.Terms.{term_at}
 use Rattle.claim_conditions.specs.Extensions.{term_before, extension_rows}
 
 module _ {q : Gf} {Q : Quiver} (W : Words q Q) (Y : Rep q Q) (terms : List TermRows) where
-  -- following the differential into term n; the coboundaries, of which there are none at 0
+  -- composition with the differential P (n + 1) → P n, in coordinates
   abbrev pub cocycle_matrix : (n : ℕ) → Mat q (coordinates Y (term_at terms n)) (coordinates Y (term_at terms (suc n)))
   cocycle_matrix n = follow_matrix W Y (term_at terms n) (term_at terms (suc n))
 
+  -- its rows span the coboundaries: composition with the differential P n → P (n − 1), in coordinates; no rows at n = 0
   abbrev pub coboundaries : (n : ℕ) → Mat q (coordinates Y (term_before terms n)) (coordinates Y (term_at terms n))
   coboundaries zero = zeros q zero (coordinates Y (term_at terms zero))
   coboundaries (suc n) = follow_matrix W Y (term_at terms n) (term_at terms (suc n))

@@ -13,10 +13,11 @@ use Rattle.module_types.specs.Readings.{family_of}
 abbrev pub Family : {q : Gf} {Q : Quiver} → Rep q Q → Rep q Q → Type 0
 Family {q} X Y = (w : ℕ) → Mat q (X.dim w) (Y.dim w)
 
--- in reduced row form at each vertex; in reduced column form at each vertex
+-- in reduced row form at each vertex
 abbrev pub AreReduced : {q : Gf} {Q : Quiver} (X Y : Rep q Q) → Family X Y → Type 0
 AreReduced X Y f = (w : ℕ) → (pivot : ℕ → ℕ) × IsRowReduced (f w) pivot
 
+-- co-reduced at each vertex: row `place i` is the unit row i, and below it column i is zero
 abbrev pub AreCoReduced : {q : Gf} {Q : Quiver} (X Y : Rep q Q) → Family X Y → Type 0
 AreCoReduced X Y f = (w : ℕ) → (place : ℕ → ℕ) × IsCoReduced (f w) place
 

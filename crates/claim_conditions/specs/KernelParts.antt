@@ -11,7 +11,7 @@ use Rattle.representations.specs.Rep.{Rep}
 use Rattle.representations.specs.Submodule.{Submodule}
 
 module _ {q : Gf} {Q : Quiver} (X : Rep q Q) {n : ℕ → ℕ} (f : (w : ℕ) → Mat q (X.dim w) (n w)) where
-  -- the rows that the matrices take to zero
+  -- the basis in reduced row form of the rows that the matrices take to zero
   abbrev pub kernel_rows : (w : ℕ) → Mat q (reduced_form (complement (f w)).kernel).size (X.dim w)
   kernel_rows w = (reduced_form (complement (f w)).kernel).rows
 

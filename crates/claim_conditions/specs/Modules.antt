@@ -10,7 +10,8 @@ use Rattle.module_types.specs.Readings.{IsModuleOver, read, read_beside, family_
 use Rattle.claim_conditions.specs.declared.Clause.TheVariants as clause
 use Rattle.claim_conditions.specs.Conditions.{Condition, ◌asks◌}
 
--- The words of a header that are a basis of its algebra on both sides: what all claims that speak of projective modules are read over.
+-- The words of a header that are a basis of its algebra on both sides: what all claims that speak of projective modules are read over. In a report: its
+-- normal words, ascending.
 abbrev pub Sides : Header → Type 0
 Sides h = TwoSided h.field (bound_algebra h)
 

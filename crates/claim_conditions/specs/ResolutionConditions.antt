@@ -29,14 +29,14 @@ module _ {q : Gf} {Q : Quiver} (W : Words q Q) (X : Rep q Q) (terms : List TermR
   IsComplex n = (k w : ℕ) → k < n → w < Q.vertices
       → printed_matrix W X terms (suc k) w · printed_matrix W X terms k w ≡ zeros q ((sum_at W X terms (suc k)).dim w) ((goes_to W X terms k).dim w)
 
-  -- `exact`: term 0 is onto X, and at each later place the ranks add to the dimension
+  -- `exact`: term 0 is onto X, and at P 0 to P (n − 1) the ranks of the maps in and out add to the dimension
   abbrev pub IsOntoByRanks : Type 0
   IsOntoByRanks = (w : ℕ) → w < Q.vertices → rank (printed_matrix W X terms zero w) ≡ X.dim w
 
   abbrev pub IsExactByRanks : ℕ → Type 0
   IsExactByRanks n = (k w : ℕ) → k < n → w < Q.vertices → rank (printed_matrix W X terms (suc k) w) + rank (printed_matrix W X terms k w) ≡ (sum_at W X terms k).dim w
 
-  -- What term k covers: X, and then the kernel of the map before, out of which no arrow leads. It has the property P.
+  -- P of what term k covers, which is X and then the kernel of the map before; false where that is a kernel out of which an arrow leads.
   abbrev pub OfCovered : (k : ℕ) → (Submodule (goes_to W X terms k) → Type 0) → Type 0
   OfCovered zero P = P (whole X)
   OfCovered (suc k) P = (closed : IsClosed (sum_at W X terms k) (printed_matrix W X terms k)) × P (kernel_part (sum_at W X terms k) (printed_matrix W X terms k) closed)

@@ -1,5 +1,5 @@
 -- The translate, the transpose and the inverse translate of a module. (Assem, Simson, Skowroński, volume 1, chapter IV, 2.)
-use Rattle.std.specs.Prelude.{ℕ, ◌<◌, ◌≡◌, List}
+use Rattle.std.specs.Prelude.{ℕ, ◌<◌, ◌≤◌, ◌≡◌, List}
 use Rattle.linear_algebra.specs.Field.{Gf}
 use Rattle.fp_linear.specs.Matrix.{PlainMatrix}
 use Rattle.path_algebra.specs.declared.Header.{Header}
@@ -56,13 +56,19 @@ module _ {q : Gf} {A : BoundQuiver} (T : TwoSided q A) (M : Rep q A.quiver) (p :
     pub matrices : HasMatrices onto projection
     pub is : IsTranspose T (count p.syzygy) (vertex p.syzygy) (count p.cover) (vertex p.cover) M (differential T p) cover onto
 
--- N has the side of a, and is its translate.
+-- The vertices of both terms are declared.
+abbrev pub AreDeclared : (h : Header) (a : Module) → List TermRows → Type 0
+AreDeclared h a terms = (k j : ℕ) → k ≤ 1 → j < count (term_at terms k) → vertex (term_at terms k) j < (algebra_at a.side h).quiver.vertices
+
+-- The vertices of the terms are declared; N has the side of a, and is its translate.
 pub record TauHolds (h : Header) (T : Sides h) (n a : Module) (terms : List TermRows) (embedding : List PlainMatrix) : Type 0 where
+  pub declared : AreDeclared h a terms
   pub side : n.side ≡ a.side
   pub is : IsTranslateOf (sided_words a.side T) (read h a) (presentation_of terms) (read_beside h a n) embedding
 
--- N has the other side, and is the transpose of a.
+-- The vertices of the terms are declared; N has the other side, and is the transpose of a.
 pub record TransposeHolds (h : Header) (T : Sides h) (n a : Module) (terms : List TermRows) (projection : List PlainMatrix) : Type 0 where
+  pub declared : AreDeclared h a terms
   pub side : n.side ≡ other_side a.side
   pub is : IsTransposeOf (sided_words a.side T) (read h a) (presentation_of terms) (read_across h a n) projection
 

@@ -8,7 +8,7 @@ ghost use Rattle.module_types.specs.declared.TermRows.{TermRows};
 ghost use Rattle.claim_conditions.specs.declared.Clause.TheVariants as clause;
 ghost use Rattle.claim_conditions.specs.declared.Residue.{Residue as Form};
 ghost use Rattle.claim_conditions.specs.Conditions.{names};
-ghost use Rattle.claim_conditions.specs.Modules.{Sides, PrintedMap, object_conditions};
+ghost use Rattle.claim_conditions.specs.Modules.{Sides, PrintedMap, object_conditions, module_conditions, map_conditions};
 ghost use Rattle.claim_conditions.specs.HomConditions.{hom_conditions};
 ghost use Rattle.claim_conditions.specs.KernelConditions.{kernel_conditions, cokernel_conditions};
 ghost use Rattle.claim_conditions.specs.RadicalConditions.{radical_conditions};
@@ -19,9 +19,12 @@ ghost use Rattle.claim_conditions.specs.DecompositionConditions.{decomposition_c
 ghost use Rattle.claim_conditions.specs.TranslateConditions.{tau_conditions, transpose_conditions, taui_conditions};
 ghost use Rattle.claim_conditions.specs.SequenceConditions.{SequenceRows, sequence_conditions};
 
-/// The conditions on the objects of a record, and behind them those on its claim, by their names in the order in which they are tried.
+/// By their names in the order in which they are tried: the conditions on the objects of a record, and for each kind those on its claim, which are tried behind
+/// them. A claim on a module or a map has none.
 pub fn names_in_order()
     ensures objects { (h : Header) (modules : List Printed) (maps : List PrintedMap) → names (object_conditions h modules maps) ≡ clause.Relations ∷ clause.Commutes ∷ [] }
+    ensures module { names module_conditions ≡ [] }
+    ensures map { names map_conditions ≡ [] }
     ensures hom { (h : Header) (a b : Printed) (rows : PlainMatrix) → names (hom_conditions h a b rows) ≡ clause.Objects ∷ clause.Reduced ∷ clause.Homs ∷ clause.All ∷ [] }
     ensures kernel { (h : Header) (n a b : Printed) (f i : List PlainMatrix)
         → names (kernel_conditions ⊤ h n a b f i) ≡ clause.Objects ∷ clause.Reduced ∷ clause.Zero ∷ clause.All ∷ [] }

@@ -1,5 +1,6 @@
 //! What the claims of a report say of modules, maps, resolutions and sequences, and the conditions by which they are judged: definitions alone, over the
-//! modules, maps, matrices and terms that are printed, with no report around them. There is no code here but the names of the conditions, and the law that says in which order they stand.
+//! modules, maps, matrices and terms that are printed, with no report around them. There is no code here but the names of the conditions and the forms of the residue ring, and the law
+//! that says in which order the conditions stand.
 #![tactic(auto)]
 
 pub mod laws;

@@ -15,7 +15,7 @@ use Rattle.claim_conditions.specs.Conditions.{AllHold}
 use Rattle.claim_conditions.specs.Modules.{MapHolds}
 use Rattle.claim_conditions.specs.Locals.{LocalHolds}
 use Rattle.claim_conditions.specs.Decompositions.{DecompositionHolds}
-use Rattle.claim_conditions.specs.DecompositionConditions.{HaveSideOf, AreInOrder, decomposition_conditions}
+use Rattle.claim_conditions.specs.DecompositionConditions.{AreInOrder, decomposition_conditions}
 use Rattle.claim_laws.proofs.Sides.{hom_at, local_at}
 
 abbrev nothing : (h : Header) (a : Module) → Module
@@ -29,6 +29,7 @@ module _ (named : Type 0) (h : Header) (a s : Module) (parts : List Module) (to 
       let there = hom_by S X (family_of S X to) (hom_at h s a to a.side m.side m) in
       let again = hom_by X S (family_of X S back) k.hom in
       record {
+        sides = c.0.1;
         isomorphism = there;
         isomorphism_matrices = λ w. refl;
         inverse = again;
@@ -39,9 +40,9 @@ module _ (named : Type 0) (h : Header) (a s : Module) (parts : List Module) (to 
         local = λ i l. local_at h (get_or parts i (nothing h a)) a.side (c.0.1.each i (nothing h a) l) (locals i (nothing h a) l);
       }
 
-  pub decomposition_complete : named → HaveSideOf a s parts → AreInOrder parts → DecompositionHolds h a s parts to back → AllHold (decomposition_conditions named h a s parts to back)
-  decomposition_complete o sides order k = (
-    (o, sides),
+  pub decomposition_complete : named → AreInOrder parts → DecompositionHolds h a s parts to back → AllHold (decomposition_conditions named h a s parts to back)
+  decomposition_complete o order k = (
+    (o, k.sides),
     (
       order,
       (

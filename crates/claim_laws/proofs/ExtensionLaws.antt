@@ -1,4 +1,4 @@
--- The conditions on a basis of extensions suffice, and each such basis meets them.
+-- The conditions on a basis of extensions suffice, and each such basis that is reduced modulo the coboundaries meets them.
 use Rattle.std.proofs.Common.{ℕ, zero, suc, ◌+◌, ◌≡◌, List, [], sym, ap, ap₂, ◌∙◌, subst, arith}
 use Rattle.linear_algebra.specs.Field.{Gf}
 use Rattle.linear_algebra.specs.Matrix.{Mat, Row, zeros, ◌·◌}
@@ -14,7 +14,7 @@ use Rattle.representations.proofs.Homs.{compose_zero}
 use Rattle.representations.proofs.Kernels.{IsExact-zero}
 use Rattle.projectives.specs.Words.{Words, IsWordBasis}
 use Rattle.projectives.specs.BasisModulo.{IsReducedModulo}
-use Rattle.projectives.specs.Extensions.{hom_of_row, composition_matrix}
+use Rattle.projectives.specs.Extensions.{hom_of_row, composition_matrix, IsExtensionBasis}
 use Rattle.projectives.specs.CanonicalCover.{projectives_at}
 use Rattle.projectives.proofs.Extensions.{killed_hom, rows_by_size, rows_size, extension_by, rows_of_extension}
 use Rattle.module_types.specs.declared.Module.{Module}
@@ -64,31 +64,37 @@ module _ {q : Gf} (A : BoundQuiver) (W : Words q A.quiver) (B : IsWordBasis A W)
         (mul_assoc_mat c E D ∙ ap (λ z. c · z) z ∙ mul_zeros c)
 
     pub extensions_by_size : AreCocycles W Y terms n E → AreReducedModulo W Y terms n E → AreAllCocycles W Y terms n E → AreExtensions A W B X Y M terms n E
-    extensions_by_size k r s = record {
-      resolution = R;
-      basis = rows_by_size A W B Y M (count (term_at terms (suc n))) (vertex (term_at terms (suc n))) (count (term_at terms n)) (vertex (term_at terms n))
-          (count (term_before terms n)) (vertex (term_before terms n)) (R.differential (suc n)) (before A W B X Y M terms n R) (before_zero n R) E (rows_killed k)
-          (subst (λ C. IsReducedModulo C E) (coboundaries_are n R) r)
-          (ap₂ (λ C D. e + rank C + rank D) (sym (coboundaries_are n R)) (sym (cocycles_are A W B X Y M terms n R)) ∙ s);
+    extensions_by_size k r s =
+        let b = rows_by_size A W B Y M (count (term_at terms (suc n))) (vertex (term_at terms (suc n))) (count (term_at terms n)) (vertex (term_at terms n))
+        (count (term_before terms n)) (vertex (term_before terms n)) (R.differential (suc n)) (before A W B X Y M terms n R) (before_zero n R) E (rows_killed k)
+        (subst (λ C. IsReducedModulo C E) (coboundaries_are n R) r)
+        (ap₂ (λ C D. e + rank C + rank D) (sym (coboundaries_are n R)) (sym (cocycles_are A W B X Y M terms n R)) ∙ s) in
+        record { resolution = R; basis = record { cocycles = b.cocycles; spans = b.spans; once = b.once } }
+
+  module _ (n : ℕ) {e : ℕ} (E : Mat q e (coordinates Y (term_at terms n))) (k : AreExtensions A W B X Y M terms n E) (r : AreReducedModulo W Y terms n E) where
+    -- the basis with its form
+    reduced_basis : IsExtensionBasis A W B (count (term_at terms (suc n))) (vertex (term_at terms (suc n))) (count (term_at terms n)) (vertex (term_at terms n))
+        (count (term_before terms n)) (vertex (term_before terms n)) Y M (k.resolution.differential (suc n)) (before A W B X Y M terms n k.resolution) E
+    reduced_basis = record {
+      cocycles = k.basis.cocycles;
+      spans = k.basis.spans;
+      once = k.basis.once;
+      reduced = subst (λ C. IsReducedModulo C E) (coboundaries_are n k.resolution) r;
     }
 
-  module _ (n : ℕ) {e : ℕ} (E : Mat q e (coordinates Y (term_at terms n))) (k : AreExtensions A W B X Y M terms n E) where
     pub cocycles_of_extensions : AreCocycles W Y terms n E
     cocycles_of_extensions =
         ap (λ z. E · z) (cocycles_are A W B X Y M terms n k.resolution)
         ∙ (rows_of_extension A W B Y M (count (term_at terms (suc n))) (vertex (term_at terms (suc n))) (count (term_at terms n)) (vertex (term_at terms n))
         (count (term_before terms n)) (vertex (term_before terms n)) (k.resolution.differential (suc n)) (before A W B X Y M terms n k.resolution)
         (extension_by A W B Y M (count (term_at terms (suc n))) (vertex (term_at terms (suc n))) (count (term_at terms n)) (vertex (term_at terms n))
-        (count (term_before terms n)) (vertex (term_before terms n)) (k.resolution.differential (suc n)) (before A W B X Y M terms n k.resolution) E k.basis)).kills
-
-    pub reduced_of_extensions : AreReducedModulo W Y terms n E
-    reduced_of_extensions = subst (λ C. IsReducedModulo C E) (sym (coboundaries_are n k.resolution)) k.basis.reduced
+        (count (term_before terms n)) (vertex (term_before terms n)) (k.resolution.differential (suc n)) (before A W B X Y M terms n k.resolution) E reduced_basis)).kills
 
     pub size_of_extensions : AreAllCocycles W Y terms n E
     size_of_extensions =
         ap₂ (λ C D. e + rank C + rank D) (coboundaries_are n k.resolution) (cocycles_are A W B X Y M terms n k.resolution)
         ∙ rows_size A W B Y M (count (term_at terms (suc n))) (vertex (term_at terms (suc n))) (count (term_at terms n)) (vertex (term_at terms n))
-        (count (term_before terms n)) (vertex (term_before terms n)) (k.resolution.differential (suc n)) (before A W B X Y M terms n k.resolution) (before_zero n k.resolution) E k.basis
+        (count (term_before terms n)) (vertex (term_before terms n)) (k.resolution.differential (suc n)) (before A W B X Y M terms n k.resolution) (before_zero n k.resolution) E reduced_basis
 
 module _ (named : Type 0) (h : Header) (T : Sides h) (a b : Module) (terms : List TermRows) (n : ℕ) (rows : PlainMatrix) where
   pub extension_suffices : ModuleHolds h b → ResolutionHolds h T a terms (suc n) → AllHold (extension_conditions named h T a b terms n rows) → ExtensionHolds h T a b terms n rows
@@ -101,8 +107,9 @@ module _ (named : Type 0) (h : Header) (T : Sides h) (a b : Module) (terms : Lis
             (extension_rows h a b terms n rows) c.1.0 c.1.1.0 c.1.1.1.0;
       }
 
-  pub extension_complete : named → ExtensionHolds h T a b terms n rows → AllHold (extension_conditions named h T a b terms n rows)
-  extension_complete o k =
+  pub extension_complete : named → ExtensionHolds h T a b terms n rows → AreReducedModulo (sided_words a.side T).words (read_beside h a b) terms n (extension_rows h a b terms n rows)
+      → AllHold (extension_conditions named h T a b terms n rows)
+  extension_complete o k r =
       let A = algebra_at a.side h in
       let W = (sided_words a.side T).words in
       let B = (sided_words a.side T).basis in
@@ -111,7 +118,7 @@ module _ (named : Type 0) (h : Header) (T : Sides h) (a b : Module) (terms : Lis
       let E = extension_rows h a b terms n rows in (
         (o, k.side),
         (
-          cocycles_of_extensions A W B X Y k.acts terms n E k.extensions,
-          (reduced_of_extensions A W B X Y k.acts terms n E k.extensions, (size_of_extensions A W B X Y k.acts terms n E k.extensions, tt)),
+          cocycles_of_extensions A W B X Y k.acts terms n E k.extensions r,
+          (r, (size_of_extensions A W B X Y k.acts terms n E k.extensions r, tt)),
         ),
       )

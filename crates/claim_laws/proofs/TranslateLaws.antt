@@ -70,6 +70,7 @@ module _ {q : Gf} {A : BoundQuiver} (T : TwoSided q A) (M : Rep q A.quiver) (p :
 module _ (named : Type 0) (h : Header) (T : Sides h) (n a : Module) (terms : List TermRows) (matrices : List PlainMatrix) where
   pub tau_suffices : ResolutionHolds h T a terms 1 → AllHold (tau_conditions named h T n a terms matrices) → TauHolds h T n a terms matrices
   tau_suffices R c = record {
+    declared = λ k j l m. R.minimal.declared k l j m;
     side = c.0.1;
     is = translate_by (sided_words a.side T) (read h a) (presentation_of terms) (read_beside h a n) matrices (presentation_holds (sided_words a.side T) (read h a) terms R) c.1;
   }
@@ -80,6 +81,7 @@ module _ (named : Type 0) (h : Header) (T : Sides h) (n a : Module) (terms : Lis
 
   pub transpose_suffices : ResolutionHolds h T a terms 1 → AllHold (transpose_conditions named h T n a terms matrices) → TransposeHolds h T n a terms matrices
   transpose_suffices R c = record {
+    declared = λ k j l m. R.minimal.declared k l j m;
     side = c.0.1;
     is = transpose_by (sided_words a.side T) (read h a) (presentation_of terms) (read_across h a n) matrices (presentation_holds (sided_words a.side T) (read h a) terms R) c.1;
   }
@@ -94,6 +96,7 @@ module _ (named : Type 0) (h : Header) (T : Sides h) (n a b : Module) (terms : L
     dual = c.0.1;
     side = c.0.2;
     transpose = record {
+      declared = λ k j l m. R.minimal.declared k l j m;
       side = c.0.2 ∙ sym (other_other a.side) ∙ ap other_side (sym c.0.1.side);
       is = transpose_by (sided_words b.side T) (read h b) (presentation_of terms) (read_across h b n) projection (presentation_holds (sided_words b.side T) (read h b) terms R) c.1;
     };

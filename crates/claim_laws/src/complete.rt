@@ -1,13 +1,12 @@
 //! What is computed in canonical form meets the conditions.
 
-ghost use Rattle.std.specs.Prelude.{⊤, ℕ, suc, ◌≡◌, List, All};
+ghost use Rattle.std.specs.Prelude.{⊤, ℕ, ◌≡◌, List};
 ghost use Rattle.fp_linear.specs.Matrix.{PlainMatrix};
 ghost use Rattle.path_algebra.specs.declared.Header.{Header};
 ghost use Rattle.module_types.specs.declared.Module.{Module};
 ghost use Rattle.module_types.specs.declared.TermRows.{TermRows};
-ghost use Rattle.module_types.specs.Algebras.{algebra_at, sided_words};
+ghost use Rattle.module_types.specs.Algebras.{sided_words};
 ghost use Rattle.module_types.specs.Presentations.{injective_term, nakayama_of};
-ghost use Rattle.representations.specs.Rep.{IsMod};
 ghost use Rattle.representations.specs.Hom.{Hom, ◌≫◌};
 ghost use Rattle.representations.specs.KernelOf.{IsKernel};
 ghost use Rattle.representations.specs.Sum.{into_first, onto_second};
@@ -22,10 +21,10 @@ ghost use Rattle.claim_conditions.specs.KernelConditions.{kernel_conditions, cok
 ghost use Rattle.claim_conditions.specs.Radicals.{RadicalHolds};
 ghost use Rattle.claim_conditions.specs.RadicalConditions.{radical_conditions};
 ghost use Rattle.claim_conditions.specs.ResolutionConditions.{IsChosen, resolution_conditions};
-ghost use Rattle.claim_conditions.specs.Extensions.{ExtensionHolds};
-ghost use Rattle.claim_conditions.specs.ExtensionConditions.{extension_conditions};
+ghost use Rattle.claim_conditions.specs.Extensions.{extension_rows, ExtensionHolds};
+ghost use Rattle.claim_conditions.specs.ExtensionConditions.{AreReducedModulo, extension_conditions};
 ghost use Rattle.claim_conditions.specs.Decompositions.{DecompositionHolds};
-ghost use Rattle.claim_conditions.specs.DecompositionConditions.{HaveSideOf, AreInOrder, decomposition_conditions};
+ghost use Rattle.claim_conditions.specs.DecompositionConditions.{AreInOrder, decomposition_conditions};
 ghost use Rattle.claim_conditions.specs.Translates.{presentation_of, transposed_term, read_across, TauHolds, TransposeHolds, TauiHolds};
 ghost use Rattle.claim_conditions.specs.TranslateConditions.{tau_conditions, transpose_conditions, taui_conditions};
 ghost use Rattle.claim_conditions.specs.LocalConditions.{ring_rows, ideal_rows, local_conditions};
@@ -52,15 +51,17 @@ pub fn reduced_kernels()
 
 /// A decomposition with its parts in order meets the conditions.
 pub fn ordered_decompositions()
-    ensures { (h : Header) (a s : Module) (parts : List Module) (to back : List PlainMatrix) → HaveSideOf a s parts → AreInOrder parts
+    ensures { (h : Header) (a s : Module) (parts : List Module) (to back : List PlainMatrix) → AreInOrder parts
         → DecompositionHolds h a s parts to back → AllHold (decomposition_conditions ⊤ h a s parts to back) }
 {}
 
-/// Terms with canonical generators meet all conditions on a resolution, and each basis of extensions meets those on it.
+/// Terms with canonical generators meet all conditions on a resolution, and a basis of extensions that is reduced modulo the coboundaries meets those on it:
+/// in reduced row form, and zero at the pivots of their reduced row form.
 pub fn chosen_resolutions()
     ensures chosen { (h : Header) (T : Sides h) (a : Module) (terms : List TermRows) (n : ℕ) → ModuleHolds h a → IsChosen (sided_words a.side T).words (read h a) terms n
         → AllHold (resolution_conditions h T a terms n) }
     ensures extensions { (h : Header) (T : Sides h) (a b : Module) (terms : List TermRows) (n : ℕ) (rows : PlainMatrix) → ExtensionHolds h T a b terms n rows
+        → AreReducedModulo (sided_words a.side T).words (read_beside h a b) terms n (extension_rows h a b terms n rows)
         → AllHold (extension_conditions ⊤ h T a b terms n rows) }
 {}
 
@@ -77,10 +78,11 @@ pub fn reduced_translates()
         → AllHold (taui_conditions ⊤ h T n a b terms projection) }
 {}
 
-/// A sequence meets the conditions where its functional does, its ends are embedded as the kernel of the differential under the Nakayama functor and as the
-/// pullback, both in reduced row form, and its maps are those between them.
+/// A sequence meets the conditions where its modules have one side, term 1 has a generator, the functional is as asked, its left end is embedded as the kernel
+/// of νd and its middle term as the pullback, both in reduced row form, and its maps are those between them. Here νd is the differential under the Nakayama
+/// functor; f and g are the printed matrices, `first` and `second` the homomorphisms.
 pub fn computed_sequences()
-    ensures { (h : Header) (T : Sides h) (n e a : Module) (first second : List PlainMatrix) (terms : List TermRows) (basis ideal : PlainMatrix) (s : SequenceRows)
+    ensures { (h : Header) (T : Sides h) (n e a : Module) (f g : List PlainMatrix) (terms : List TermRows) (basis ideal : PlainMatrix) (s : SequenceRows)
         → HaveSequenceSides n e a → (m : ModuleHolds h a) → IsNotProjective (sided_words a.side T) (presentation_of terms)
         → IsEndFunctional (sided_words a.side T) (presentation_of terms) (read h a) s.functional (ring_rows h a basis) (ideal_rows h basis ideal)
         → (i : Hom (read_beside h a n) (injective_term (sided_words a.side T) (presentation_of terms).syzygy)) → HasMatrices i s.left
@@ -89,10 +91,10 @@ pub fn computed_sequences()
         → (j : Hom (read_beside h a e) (around (sided_words a.side T) (presentation_of terms) (read h a))) → HasMatrices j s.middle
         → IsKernel j (pullback_hom (sided_words a.side T) (presentation_of terms) (read h a) m s.functional)
         → AreReduced (read_beside h a e) (around (sided_words a.side T) (presentation_of terms) (read h a)) j.at
-        → (f : Hom (read_beside h a n) (read_beside h a e)) (g : Hom (read_beside h a e) (read h a)) → HasMatrices f first → HasMatrices g second
-        → f ≫ j ≡ i ≫ into_first (injective_term (sided_words a.side T) (presentation_of terms).syzygy) (read h a)
-        → g ≡ j ≫ onto_second (injective_term (sided_words a.side T) (presentation_of terms).syzygy) (read h a)
-        → AllHold (sequence_conditions ⊤ h T n e a first second terms basis ideal s) }
+        → (first : Hom (read_beside h a n) (read_beside h a e)) (second : Hom (read_beside h a e) (read h a)) → HasMatrices first f → HasMatrices second g
+        → first ≫ j ≡ i ≫ into_first (injective_term (sided_words a.side T) (presentation_of terms).syzygy) (read h a)
+        → second ≡ j ≫ onto_second (injective_term (sided_words a.side T) (presentation_of terms).syzygy) (read h a)
+        → AllHold (sequence_conditions ⊤ h T n e a f g terms basis ideal s) }
 {}
 
 /// Over a basis of its endomorphisms a local module has an ideal, a power of it and a form of the residue ring that meet the conditions.

@@ -4,6 +4,12 @@ use Rattle.claim_conditions.proofs.laws.names_in_order.Goals as goal
 pub returns-clause-objects : goal.returns-clause-objects
 returns-clause-objects c = λ h modules maps. refl
 
+pub returns-clause-module : goal.returns-clause-module
+returns-clause-module c = refl
+
+pub returns-clause-map : goal.returns-clause-map
+returns-clause-map c = refl
+
 pub returns-clause-hom : goal.returns-clause-hom
 returns-clause-hom c = λ h a b rows. refl
 
