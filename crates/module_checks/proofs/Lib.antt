@@ -1,0 +1,10 @@
+pub mod SpreadDots
+pub mod Steps
+pub mod HomRank
+pub mod Sides
+pub mod HomsMeet
+pub mod Pivots
+pub mod HomRows
+pub mod Squares
+pub mod Walks
+pub mod RelationRows

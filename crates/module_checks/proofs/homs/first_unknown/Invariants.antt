@@ -1,0 +1,10 @@
+use Rattle.std.proofs.Common.{◌≡◌, ◌≤◌, ◌*◌}
+use Rattle.linear_algebra.specs.BlockFamilies.{total}
+use Rattle.module_checks.specs.Commuting.{block_sizes}
+use Rattle.module_checks.proofs.homs.first_unknown.Given as goal
+
+abbrev pub invariant-loop-v : goal.invariant-loop-v
+invariant-loop-v l = record {
+  count : l.count ≡ total l.v (block_sizes l.x.dims l.y.dims);
+  small : l.count ≤ l.v * 65536;
+}

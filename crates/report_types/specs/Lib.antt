@@ -1,0 +1,12 @@
+pub mod BasisBlocks
+pub mod BasisClaims
+pub mod ClaimBlocks
+pub mod Conditions
+pub mod Ends
+pub mod Holding
+pub mod Lawful
+pub mod Limits
+pub mod NamedClaims
+pub mod Numbers
+pub mod Verdicts
+pub mod WordDimensions
