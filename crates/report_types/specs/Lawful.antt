@@ -12,7 +12,7 @@ use Rattle.report_types.specs.declared.claims.Claim.TheVariants as claim
 use Rattle.report_types.specs.declared.claims.Record.{Record}
 use Rattle.report_types.specs.declared.reports.Report.{Report}
 use Rattle.report_types.specs.Limits.{IsLine}
-use Rattle.report_types.specs.Numbers.{module_of, record_of, NamesModule}
+use Rattle.report_types.specs.Numbers.{modules_of, maps_of, module_of, record_of, NamesModule}
 use Rattle.report_types.specs.ClaimBlocks.{IsClaimBlock}
 use Rattle.report_types.specs.Ends.{IsEnd}
 
@@ -43,9 +43,11 @@ abbrev pub MayBeRecord : Header → List Record → Option Record → Type 0
 MayBeRecord h rs None = ⊤
 MayBeRecord h rs (Some r) = IsRecord h rs r
 
--- Each record is read over those up to itself. Claims have numbers below 2^32.
+-- Each record is read over those up to itself. Claims, modules and maps have numbers below 2^32.
 pub record IsReport (report : Report) : Type 0 where
   pub header : IsAllowed report.header
   pub few : length report.records < 2 ^ 32
+  pub few_modules : length (modules_of report.records) < 2 ^ 32
+  pub few_maps : length (maps_of report.records) < 2 ^ 32
   pub each : (k : ℕ) → MayBeRecord report.header (take k report.records) (record_of report.records k)
   pub ends : IsEnd report.header report.records report.end

@@ -35,7 +35,7 @@ pub fn conditions_suffice()
         → AreNormalWords report.header (printed_words report.records) }
 {}
 
-/// Where a claim holds, each module of its own record is one over the algebra, and each map a homomorphism.
+/// Where a claim holds, each module of its own record is read as one over the algebra, and each map as a homomorphism.
 pub fn objects_hold()
     ensures modules { (report : ReportView) (k : ℕ) (r : RecordView) → IsAllowed report.header → Holds report k → record_of report.records k ≡ Some r
         → All (ModuleHolds report.header) r.modules }
@@ -61,7 +61,8 @@ pub fn only_what_stands_before()
         → HoldsOver (followed_by report more) T k → HoldsOver report T k }
 {}
 
-/// A claim names claims before itself; and the modules and maps that it names are those of the whole report with these numbers.
+/// The number of an earlier claim, over the records up to a claim, is smaller than that claim's own; and what a number names over these records, a
+/// claim, a module or a map, it names in the whole report.
 pub fn names_are_earlier()
     ensures claims { (report : ReportView) (k n : ℕ) → NamesClaim (take k report.records) n → n < k }
     ensures same_claim { (report : ReportView) (k n : ℕ) → NamesClaim (take k report.records) n → claim_of (take k report.records) n ≡ claim_of report.records n }
@@ -69,7 +70,8 @@ pub fn names_are_earlier()
     ensures same_map { (report : ReportView) (k n : ℕ) → NamesMap (take k report.records) n → map_of (take k report.records) n ≡ map_of report.records n }
 {}
 
-/// The conditions by their names in the order in which they are tried: those on the objects of a record, and behind them those on its claim.
+/// The conditions by their names in the order in which they are tried: on the basis, on the objects of a record, and on some kinds of claims; those of
+/// all kinds are a law of `claim_conditions`.
 pub fn names_in_order()
     ensures basis { (h : HeaderView) (T : Sides h) (rs : List RecordView) (words : List PathView) (steps : List StepView) (rules : List RuleView)
         → names (claim_conditions h T rs (claim.Basis words steps rules)) ≡ clause.Step ∷ clause.Rule ∷ clause.Reduced ∷ clause.Words ∷ clause.Action ∷ [] }
@@ -88,7 +90,8 @@ pub fn names_in_order()
         → names (claim_conditions h T rs (claim.Local m c ideal power residue)) ≡ clause.Objects ∷ clause.Nonzero ∷ clause.Ideal ∷ clause.Power ∷ clause.Residue ∷ [] }
 {}
 
-/// What `objects` asks of the numbers that claims name.
+/// Some of what `objects` asks of the numbers that claims name: where all conditions hold, the resolution, the Hom claim or the local claim that is named
+/// is one of the module that is asked.
 pub fn claims_name_what_they_need()
     ensures ext { (h : HeaderView) (T : Sides h) (rs : List RecordView) (n a b : ℕ) (rows : PlainMatrix) (c : ℕ)
         → AllHold (claim_conditions h T rs (claim.Ext n a b rows c)) → IsResolutionOf (claim_of rs c) a }
