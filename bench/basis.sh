@@ -5,6 +5,7 @@ set -eu
 cd "$(dirname "$0")/.."
 program=./quiv
 "$program" run < examples/point.quiv > /dev/null    # builds it where it is missing
+program=crates/quiv/out/quiv                        # the program itself, without the look at its sources
 scratch=$(mktemp -d)
 trap 'rm -rf "$scratch"' EXIT
 
