@@ -35,6 +35,30 @@ AreElements-take q n s h a = record {
 pub AreElements-drop : (q : Gf) (n : ℕ) (s : List ℕ) → AreElements q s → AreElements q (drop n s)
 AreElements-drop q n s a = record { small = λ k. rw (get_or-drop n s k 0) (a.small (n + k)) }
 
+-- a part is written that was lent alone
+pub IsWritten-part : (a count n : ℕ) (old written : List ℕ) → n ≡ count → length written ≡ count → a + count ≤ length old → IsWritten old (take a old ++ (written ++ drop n (drop a old))) a count (λ j. get_or written j 0)
+IsWritten-part a count n old written ne size fits = record {
+  within = λ j l.
+      get_or-append_right (take a old) (written ++ drop n (drop a old)) a (a + j) 0 taken (omega arith)
+      ∙ ap (λ k. get_or (written ++ drop n (drop a old)) k 0) (place j)
+      ∙ get_or_append_left written (drop n (drop a old)) 0 j (omega (arith, size, l));
+  before = λ k l. get_or_append_left (take a old) (written ++ drop n (drop a old)) 0 k (omega (arith, taken, l)) ∙ get_or-take a old k 0 l;
+  after = λ k l.
+      get_or-append_right (take a old) (written ++ drop n (drop a old)) a k 0 taken (omega arith)
+      ∙ get_or-append_right written (drop n (drop a old)) count (k - a) 0 size (omega arith)
+      ∙ get_or-drop n (drop a old) (k - a - count) 0 ∙ get_or-drop a old (n + (k - a - count)) 0
+      ∙ ap (λ i. get_or old i 0) (rest k l);
+}
+  where
+    taken : length (take a old) ≡ a
+    taken = length-take-le a old (omega arith)
+
+    place : (j : ℕ) → ◌≡◌ {A = ℕ} (a + j - a) j
+    place j = omega arith
+
+    rest : (k : ℕ) → a + count ≤ k → ◌≡◌ {A = ℕ} (a + (n + (k - a - count))) k
+    rest k l = omega arith
+
 -- the row that is written stands behind the one that is added
 pub IsWritten-behind : (q : Gf) (f a b count : ℕ) (all front back src dst written : List ℕ) → all ≡ front ++ back → length front ≡ b
     → ((j : ℕ) → j < count → get_or src j 0 ≡ get_or front (a + j) 0) → ((j : ℕ) → j < count → get_or dst j 0 ≡ get_or back j 0) → length dst ≡ count → written ≡ plus_multiple q f src dst → a + count ≤ b

@@ -13,7 +13,6 @@ pub mod Products
 pub mod RankOf
 pub mod Result
 pub mod RowLoops
-pub mod RowClearing
 pub mod SeparateOf
 pub mod Slices
 pub mod SolveOf

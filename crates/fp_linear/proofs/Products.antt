@@ -1,70 +1,71 @@
 -- Products of matrices row by row, and transposes column by column.
-use Rattle.std.proofs.Common.{ℕ, ◌<◌, ◌≡◌, inl, inr, ◌+◌, ◌*◌, ◌-◌, List, [], ◌++◌, replicate, length, get_or, take, refl, sym, ap, ◌∙◌, arith, add-one, add-mul}
-use Rattle.std.proofs.lemmas.List.{get_or-take, get_or-append-add, get_or_append_left, get_or-append_right, length-append, get_or-replicate, length-replicate, ext_get_or}
-use Rattle.std.proofs.lemmas.Nat.{mul-add-lt}
-use Rattle.std.proofs.lemmas.Bool.{cases_lt}
-use Rattle.linear_algebra.specs.Field.{Gf, add, mul}
-use Rattle.linear_algebra.specs.FieldLaws.{zero_mul, add_zero}
-use Rattle.linear_algebra.specs.Sums.{sum_to, sum-none, sum-suc, sum_below, sum-same}
-use Rattle.linear_algebra.specs.Rows.{entry, rows_of, product, transposed}
-use Rattle.linear_algebra.proofs.Rows.{rows_same, entry-product, length-product, length-rows_of, row-rows_of, row-product, length-times, length-list_of, list_of-same}
-use Rattle.fp_linear.specs.Slices.{cell, IsWritten, added}
-use Rattle.fp_linear.specs.Products.{partial_product, HasProductRow, HasProductRows, HasColumns}
+use Rattle.std.proofs.Common.{ℕ, ◌<◌, ◌≡◌, inl, inr, ◌+◌, ◌*◌, ◌-◌, ◌/◌, ◌%◌, List, [], ◌++◌, length, get_or, sym, ap, ◌∙◌, arith, add-mul}
+use Rattle.std.proofs.lemmas.List.{get_or-append-add, get_or_append_left, get_or-append_right, length-append, ext_get_or, get_or_past}
+use Rattle.std.proofs.lemmas.Nat.{mul-add-lt, div_below, mod_below}
+use Rattle.std.proofs.lemmas.Bool.{cases_lt, cases_eq}
+use Rattle.linear_algebra.specs.Field.{Gf, order, mul}
+use Rattle.linear_algebra.specs.FieldLaws.{order-pos}
+use Rattle.linear_algebra.specs.Sums.{sum_to, sum_below, sum-same}
+use Rattle.linear_algebra.specs.Rows.{entry, rows_of, product, times, transposed}
+use Rattle.linear_algebra.proofs.Rows.{get_or-times, rows_same, entry-product, length-product, length-rows_of, row-rows_of, row-product, length-times, length-list_of, list_of-same}
+use Rattle.fp_linear.specs.Slices.{AreElements, cell, IsWritten}
+use Rattle.fp_linear.specs.Products.{HasProductRows, HasColumns}
 use Rattle.fp_linear.proofs.Cells.{cell-is, cell-written, cell-unwritten, cell-entry}
 
-pub HasProductRow-none : (q : Gf) (m n i : ℕ) (a e : ℕ → ℕ → ℕ) → ((j : ℕ) → j < n → e i j ≡ 0) → HasProductRow q m n 0 i a e e
-HasProductRow-none q m n i a e z = record { row = λ j h. z j h ∙ sym (sum-none q _); others = λ t j h d. refl }
+pub HasProductRows-none : (q : Gf) (k n : ℕ) (a e f : ℕ → ℕ → ℕ) → HasProductRows q k n 0 a e f
+HasProductRows-none q k n a e f = record { done = λ t j h. absurd (omega arith) }
 
-partial-suc : (q : Gf) (m k : ℕ) (a e : ℕ → ℕ → ℕ) (i j : ℕ) → partial_product q m (k + 1) a e i j ≡ add q (partial_product q m k a e i j) (mul q (a i k) (e (m + k) j))
-partial-suc q m k a e i j = ap (λ c. sum_to q c (λ t. mul q (a i t) (e (m + t) j))) (add-one k) ∙ sum-suc q k (λ t. mul q (a i t) (e (m + t) j))
-
-pub HasProductRow-zero : (q : Gf) (m n k i : ℕ) (a e f : ℕ → ℕ → ℕ) → a i k ≡ 0 → HasProductRow q m n k i a e f → HasProductRow q m n (k + 1) i a e f
-HasProductRow-zero q m n k i a e f z h = record {
-  row = λ j l. h.row j l ∙ sym (partial-suc q m k a e i j ∙ ap (λ y. add q (partial_product q m k a e i j) (mul q y (e (m + k) j))) z ∙ ap (add q (partial_product q m k a e i j)) (zero_mul q _) ∙ add_zero q _ (sum_below q k _));
-  others = h.others;
-}
-
-pub HasProductRow-more : (q : Gf) (m n k i factor : ℕ) (a : ℕ → ℕ → ℕ) (old s new : List ℕ) → i < m → factor ≡ a i k → IsWritten s new (i * n) n (added q factor ((m + k) * n) (i * n) s)
-    → HasProductRow q m n k i a (cell n old) (cell n s) → HasProductRow q m n (k + 1) i a (cell n old) (cell n new)
-HasProductRow-more q m n k i factor a old s new hi fac w h = record {
-  row = λ j l.
-      cell-written s new n i 0 (i * n) n _ (omega arith) w j (omega arith) (omega arith)
-      ∙ ap (λ y. add q y (mul q factor (get_or s ((m + k) * n + (j - 0)) 0))) (place i j ∙ h.row j l)
-      ∙ ap (λ y. add q (partial_product q m k a (cell n old) i j) (mul q factor y)) (place (m + k) j ∙ h.others (m + k) j l (λ e. omega arith))
-      ∙ ap (λ y. add q (partial_product q m k a (cell n old) i j) (mul q y (cell n old (m + k) j))) fac
-      ∙ sym (partial-suc q m k a (cell n old) i j);
-  others = λ t j l d. cell-unwritten s new n i 0 (i * n) n _ (omega arith) (omega arith) w t j l d ∙ h.others t j l d;
-}
-  where
-    place : (r j : ℕ) → get_or s (r * n + (j - 0)) 0 ≡ cell n s r j
-    place r j = let e : r * n + (j - 0) ≡ r * n + j = omega arith in ap (λ x. get_or s x 0) e ∙ sym (cell-is n s r j)
-
-pub HasProductRows-none : (q : Gf) (m n k : ℕ) (a e : ℕ → ℕ → ℕ) → HasProductRows q m n k 0 a e e
-HasProductRows-none q m n k a e = record { done = λ t j h. absurd (omega arith); rest = λ t j h l. refl }
-
-pub HasProductRows-more : (q : Gf) (m n k i : ℕ) (a e f g : ℕ → ℕ → ℕ) → i < m → HasProductRows q m n k i a e f → HasProductRow q m n k i a f g → HasProductRows q m n k (i + 1) a e g
-HasProductRows-more q m n k i a e f g hi h r = record {
+-- one row more: the part x of the left slice times the right one is written
+pub HasProductRows-more : (q : Gf) (m k n i : ℕ) (left right old x row new : List ℕ) → i < m → length x ≡ k → ((u : ℕ) → u < k → get_or x u 0 ≡ cell k left i u) → row ≡ times q n x (rows_of (length x) n right)
+    → IsWritten old new (i * n) n (λ j. get_or row j 0) → HasProductRows q k n i (cell k left) (cell n right) (cell n old) → HasProductRows q k n (i + 1) (cell k left) (cell n right) (cell n new)
+HasProductRows-more q m k n i left right old x row new hi size part is w h = record {
   done = λ t j l b. elim (cases_lt t i) [
-    | inl c ↦ r.others t j b (λ s. omega arith) ∙ h.done t j c b
+    | inl c ↦ cell-unwritten old new n i 0 (i * n) n _ (omega arith) (omega arith) w t j b (λ e. omega arith) ∙ h.done t j c b
     | inr c ↦
         let s : t ≡ i = omega arith in
-        ap (λ t. g t j) s ∙ r.row j b ∙ sum-same q k _ _ (λ u v. ap (mul q (a i u)) (h.rest (m + u) j (omega arith) b)) ∙ ap (λ i. partial_product q m k a e i j) (sym s)
+        let z : ◌≡◌ {A = ℕ} (j - 0) j = omega arith in
+        ap (λ t. cell n new t j) s
+        ∙ cell-written old new n i 0 (i * n) n _ (omega arith) w j (omega arith) (omega arith)
+        ∙ ap (λ j. get_or row j 0) z ∙ ap (λ y. get_or y j 0) is
+        ∙ get_or-times q n x (rows_of (length x) n right) j b
+        ∙ ap (λ c. sum_to q c (λ u. mul q (get_or x u 0) (entry (rows_of (length x) n right) u j))) (length-rows_of (length x) n right ∙ size)
+        ∙ sum-same q k _ _ (λ u v. ap (λ y. mul q y (entry (rows_of (length x) n right) u j)) (part u v) ∙ ap (mul q (cell k left i u)) (cell-entry (length x) n right u j (omega (arith, size, v)) b))
+        ∙ ap (λ t. sum_to q k (λ u. mul q (cell k left t u) (cell n right u j))) (sym s)
   ];
-  rest = λ t j l b. r.others t j b (λ s. omega arith) ∙ h.rest t j (omega arith) b;
 }
 
+-- what is written is a matrix over the field
+pub HasProductRows-elements : (q : Gf) (m k n : ℕ) (a e : ℕ → ℕ → ℕ) (s : List ℕ) → length s ≡ m * n → HasProductRows q k n m a e (cell n s) → AreElements q s
+HasProductRows-elements q m k n a e s size h = record {
+  small = λ p. elim (cases_lt p (m * n)) [
+    | inl l ↦ within p l
+    | inr l ↦ rw (get_or_past s p 0 (omega (arith, size, l))) (order-pos q)
+  ];
+}
+  where
+    some : (p : ℕ) → p < m * n → 0 < n
+    some p l = elim (cases_eq n 0) [
+      | inl z ↦ absurd (let e : m * n ≡ 0 = ap (λ n. m * n) z ∙ omega arith in omega arith)
+      | inr ne ↦ omega arith
+    ]
+
+    within : (p : ℕ) → p < m * n → get_or s p 0 < order q
+    within p l =
+        let pos = some p l in
+        let at : p / n * n + p % n ≡ p = omega arith in
+        let e : get_or s p 0 ≡ sum_to q k (λ u. mul q (a (p / n) u) (e u (p % n))) = ap (λ p. get_or s p 0) (sym at) ∙ sym (cell-is n s (p / n) (p % n)) ∙ h.done (p / n) (p % n) (div_below p n m pos l) (mod_below p n pos) in
+        rw e (sum_below q k _)
+
 -- the rows of the product
-pub rows_of-product : (q : Gf) (m k n : ℕ) (left right start new s : List ℕ) → HasProductRows q m n k m (cell k left) (cell n start) (cell n new)
-    → ((t j : ℕ) → t < k → j < n → cell n start (m + t) j ≡ cell n right t j) → ((i j : ℕ) → i < m → j < n → cell n s i j ≡ cell n new i j)
-    → rows_of m n s ≡ product q n (rows_of m k left) (rows_of k n right)
-rows_of-product q m k n left right start new s h b same =
+pub rows_of-product : (q : Gf) (m k n : ℕ) (left right s : List ℕ) → HasProductRows q k n m (cell k left) (cell n right) (cell n s) → rows_of m n s ≡ product q n (rows_of m k left) (rows_of k n right)
+rows_of-product q m k n left right s h =
     let count : length (product q n (rows_of m k left) (rows_of k n right)) ≡ m = length-product q n (rows_of m k left) (rows_of k n right) ∙ length-rows_of m k left in
     rows_same m n _ _ (length-rows_of m n s) count
     (λ i l. ap length (row-rows_of m n s i l) ∙ length-list_of n _)
     (λ i l. ap length (row-product q n (rows_of m k left) (rows_of k n right) i (let c = length-rows_of m k left in omega arith)) ∙ length-times q n _ _)
     (λ i j l v.
-    cell-entry m n s i j l v ∙ same i j l v ∙ h.done i j l v
-    ∙ sum-same q k _ _ (λ t w. ap (λ y. mul q y (cell n start (m + t) j)) (sym (cell-entry m k left i t l w)) ∙ ap (mul q (entry (rows_of m k left) i t)) (b t j w v ∙ sym (cell-entry k n right t j w v)))
+    cell-entry m n s i j l v ∙ h.done i j l v
+    ∙ sum-same q k _ _ (λ t w. ap (λ y. mul q y (cell n right t j)) (sym (cell-entry m k left i t l w)) ∙ ap (mul q (entry (rows_of m k left) i t)) (sym (cell-entry k n right t j w v)))
     ∙ ap (λ c. sum_to q c (λ t. mul q (entry (rows_of m k left) i t) (entry (rows_of k n right) t j))) (sym (length-rows_of k n right))
     ∙ sym (entry-product q n (rows_of m k left) (rows_of k n right) i j (let c = length-rows_of m k left in omega arith) v))
 
@@ -83,11 +84,6 @@ cell-append_first m n s t i j e h k =
     let inside = mul-add-lt i n j m h k in
     cell-is n (s ++ t) i j ∙ get_or_append_left s t 0 (i * n + j) (omega arith) ∙ sym (cell-is n s i j)
 
-pub cell-take : (m n c : ℕ) (s : List ℕ) (i j : ℕ) → c ≡ m * n → i < m → j < n → cell n (take c s) i j ≡ cell n s i j
-cell-take m n c s i j e h k =
-    let inside = mul-add-lt i n j m h k in
-    cell-is n (take c s) i j ∙ get_or-take c s (i * n + j) 0 (omega arith) ∙ sym (cell-is n s i j)
-
 pub rows_of-append : (m k n : ℕ) (s t : List ℕ) → length s ≡ m * n → rows_of (m + k) n (s ++ t) ≡ rows_of m n s ++ rows_of k n t
 rows_of-append m k n s t e =
     let first = length-rows_of m n s in
@@ -105,10 +101,3 @@ rows_of-append m k n s t e =
           ∙ list_of-same n _ _ 0 (λ j c. ap (λ i. get_or (s ++ t) (i * n + j) 0) (sym place) ∙ sym (cell-is n (s ++ t) (m + (i - m)) j) ∙ cell-append m n s t (i - m) j e ∙ cell-is n t (i - m) j)
           ∙ sym (row-rows_of k n t (i - m) (omega arith)) ∙ sym (get_or-append_right (rows_of m n s) (rows_of k n t) m i [] first b)
     ])
-
--- zero rows in front of others
-pub cell-zeros : (m n : ℕ) (s z t : List ℕ) (i j : ℕ) → s ≡ z ++ t → z ≡ replicate (m * n) 0 → i < m → j < n → cell n s i j ≡ 0
-cell-zeros m n s z t i j e f h k =
-    let inside = mul-add-lt i n j m h k in
-    let count : length z ≡ m * n = ap length f ∙ length-replicate (m * n) 0 in
-    ap (λ s. cell n s i j) e ∙ cell-append_first m n z t i j count h k ∙ cell-is n z i j ∙ ap (λ z. get_or z (i * n + j) 0) f ∙ get_or-replicate (m * n) (i * n + j) 0 0 (omega arith)

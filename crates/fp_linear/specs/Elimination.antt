@@ -45,16 +45,11 @@ pub record IsClearedBelow (q : Gf) (m n r c k : ℕ) (e f : ℕ → ℕ → ℕ)
   pub done : (i j : ℕ) → i < k → i < m → j < n → i ≢ r → f i j ≡ add q (e i j) (mul q (neg q (e i c)) (e r j))
   pub rest : (i j : ℕ) → k ≤ i → i < m → j < n → f i j ≡ e i j
 
--- From row r the first k rows are taken, each as often as its pivot p i stood in row r.
-pub record IsRowCleared (q : Gf) (n r k : ℕ) (p : ℕ → ℕ) (e f : ℕ → ℕ → ℕ) : Type 0 where
-  pub row : (j : ℕ) → j < n → f r j ≡ sub q (e r j) (sum_to q k (λ i. mul q (e r (p i)) (e i j)))
-  pub others : (i j : ℕ) → j < n → i ≢ r → f i j ≡ e i j
-
--- f is the functional of column c, as far as the first k rows in reduced row form with the entries e and the pivots p tell it.
-pub record IsFunctionalUpTo (q : Gf) (n c k : ℕ) (e : ℕ → ℕ → ℕ) (p f : ℕ → ℕ) : Type 0 where
-  pub at_column : f c ≡ 1
-  pub at_pivot : (i : ℕ) → i < k → f (p i) ≡ neg q (e i c)
-  pub elsewhere : (j : ℕ) → j < n → j ≢ c → ((i : ℕ) → i < k → p i ≢ j) → f j ≡ 0
+-- y is the functional of column c, as far as the first k of these rows in reduced row form with n entries tell it.
+pub record IsFunctionalUpTo (q : Gf) (n c k : ℕ) (form : List (List ℕ)) (y : List ℕ) : Type 0 where
+  pub at_column : slice_index y c ≡ 1
+  pub at_pivot : (i : ℕ) → i < k → slice_index y (pivot form i) ≡ neg q (entry form i c)
+  pub elsewhere : (j : ℕ) → j < n → j ≢ c → ((i : ℕ) → i < k → pivot form i ≢ j) → slice_index y j ≡ 0
 
 -- From the row x the first k rows are taken, each as often as the entry of x at its pivot says.
 pub record IsClearedOf (q : Gf) (n k : ℕ) (rows : List (List ℕ)) (x y : List ℕ) : Type 0 where

@@ -1,4 +1,5 @@
 pub mod Elimination
+pub mod Equality
 pub mod Matrix
 pub mod Meeting
 pub mod Products

@@ -3,20 +3,9 @@ use Rattle.std.specs.Prelude.{ℕ, ◌<◌, ◌≤◌, ◌≡◌, ◌≢◌, ◌
 use Rattle.linear_algebra.specs.Field.{Gf, mul}
 use Rattle.linear_algebra.specs.Sums.{sum_to}
 
--- the sum of the first k products a i t · e (m + t) j: what stands at row i and column j of the product of the matrix with entries a and the one that
--- stands behind m rows
-abbrev pub partial_product : Gf → ℕ → ℕ → (ℕ → ℕ → ℕ) → (ℕ → ℕ → ℕ) → ℕ → ℕ → ℕ
-partial_product q m k a e i j = sum_to q k (λ t. mul q (a i t) (e (m + t) j))
-
--- Row i of f is that of the product of the first k columns, the other rows are those of e.
-pub record HasProductRow (q : Gf) (m n k i : ℕ) (a e f : ℕ → ℕ → ℕ) : Type 0 where
-  pub row : (j : ℕ) → j < n → f i j ≡ partial_product q m k a e i j
-  pub others : (t j : ℕ) → j < n → t ≢ i → f t j ≡ e t j
-
--- The first i rows of f are those of the product, the others are those of e.
-pub record HasProductRows (q : Gf) (m n k i : ℕ) (a e f : ℕ → ℕ → ℕ) : Type 0 where
-  pub done : (t j : ℕ) → t < i → j < n → f t j ≡ partial_product q m k a e t j
-  pub rest : (t j : ℕ) → i ≤ t → j < n → f t j ≡ e t j
+-- The first i rows of f, of n entries each, are those of the product of the matrix with k columns and the entries a and the one with the entries e.
+pub record HasProductRows (q : Gf) (k n i : ℕ) (a e f : ℕ → ℕ → ℕ) : Type 0 where
+  pub done : (t j : ℕ) → t < i → j < n → f t j ≡ sum_to q k (λ u. mul q (a t u) (e u j))
 
 -- Of f, which has `width` columns, the first n entries of a column are h 0, h 1, ..; the other columns stay.
 pub record HasColumn (width n column : ℕ) (h : ℕ → ℕ) (f g : ℕ → ℕ → ℕ) : Type 0 where

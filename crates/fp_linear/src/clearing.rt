@@ -1,6 +1,6 @@
-//! Rows in lent memory: a row less what reduced rows say of it, and a row times a matrix.
+//! Rows in lent memory: a row less what reduced rows say of it, a row times a matrix, and a matrix times a matrix.
 ghost use Rattle.std.specs.Prelude.{ℕ, ◌≡◌, ◌*◌, length, slice_index};
-ghost use Rattle.linear_algebra.specs.Rows.{rows_of, times};
+ghost use Rattle.linear_algebra.specs.Rows.{rows_of, product, times};
 ghost use Rattle.linear_algebra.specs.Reduced.{IsReduced, pivots_of, remainder};
 ghost use Rattle.fp_linear.specs.Slices.{AreElements};
 
@@ -37,6 +37,31 @@ pub fn multiply_row(field: Field, x: &[u8], rows: &[u8], out: &mut [u8])
     let count = out.len();
     for i in 0..x.len() {
         add_multiple(field, x[i], &rows[i * count..i * count + count], out);
+    }
+}
+
+/// Writes the product of the matrix `left`, of `rows` rows and `inner` columns, and the matrix `right`, of `inner` rows and `cols` columns: in each of
+/// the slices the rows stand one after another.
+pub fn multiply_rows(
+    field: Field,
+    rows: usize,
+    inner: usize,
+    cols: usize,
+    left: &[u8],
+    right: &[u8],
+    out: &mut [u8],
+)
+    requires left_elements { AreElements field left.now }
+    requires right_elements { AreElements field right.now }
+    requires left_shape { length left.now ≡ rows * inner }
+    requires right_shape { length right.now ≡ inner * cols }
+    requires shape { length out.old ≡ rows * cols }
+    ensures product { rows_of rows cols out.new ≡ product field cols (rows_of rows inner left.now) (rows_of inner cols right.now) }
+    ensures elements { AreElements field out.new }
+{
+    for i in 0..rows {
+        let row = &left[i * inner..i * inner + inner];
+        multiply_row(field, row, right, &mut out[i * cols..i * cols + cols]);
     }
 }
 

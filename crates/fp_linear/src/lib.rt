@@ -14,7 +14,7 @@ mod separate;
 mod tables;
 
 pub use add::add_multiple;
-pub use clearing::{clear_row, multiply_row};
+pub use clearing::{clear_row, multiply_row, multiply_rows};
 pub use echelon::echelon_rows;
 pub use field::Field;
 pub use matrix::{Matrix, echelon_in_place};

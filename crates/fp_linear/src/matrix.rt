@@ -1,10 +1,12 @@
 //! Matrices.
 ghost use Rattle.std.specs.Prelude.{◌≡◌, ◌*◌, ◌<◌, ◌≤◌, IfOk, length, slice_index_or, []};
+ghost use Rattle.std.specs.Cmp.{decided, partial_equiv_from_equiv};
 ghost use Rattle.linear_algebra.specs.Field.{order};
 ghost use Rattle.linear_algebra.specs.Rows.{rows_of};
 ghost use Rattle.linear_algebra.specs.Reduced.{ReducesTo};
 ghost use Rattle.fp_linear.specs.Slices.{AreElements};
 ghost use Rattle.fp_linear.specs.Matrix.{PlainMatrix, plain, IsMatrix, most_entries, zero_rows};
+ghost use Rattle.fp_linear.specs.Equality.{same_matrix, same_matrix-decides};
 
 mod arithmetic;
 mod kernel;
@@ -47,6 +49,23 @@ impl Clone for Matrix {
             entries,
         })
     }
+}
+
+impl PartialEq for Matrix {
+    ghost eq = { same_matrix };
+
+    ghost laws = { partial_equiv_from_equiv (decided same_matrix same_matrix-decides) };
+
+    fn eq(&self, other: &Self) -> bool {
+        self.field == other.field
+            && self.rows == other.rows
+            && self.cols == other.cols
+            && self.entries == other.entries
+    }
+}
+
+impl Eq for Matrix {
+    ghost laws = { decided same_matrix same_matrix-decides };
 }
 
 impl Matrix {

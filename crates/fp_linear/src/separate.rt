@@ -1,13 +1,12 @@
 //! Functionals that tell a row from a row space.
-ghost use Rattle.std.specs.Prelude.{◌≡◌, ◌≢◌, ◌+◌, ◌*◌, ◌<◌, ◌≤◌, ℕ, IfOk, MatchOption, length, slice_index};
-ghost use Rattle.linear_algebra.specs.Field.{order};
-ghost use Rattle.linear_algebra.specs.Rows.{IsInSpan};
-ghost use Rattle.linear_algebra.specs.Separators.{IsSeparated};
-ghost use Rattle.fp_linear.specs.Slices.{AreElements, cell};
-ghost use Rattle.fp_linear.specs.Elimination.{IsRowCleared, IsFunctionalUpTo};
+ghost use Rattle.std.specs.Prelude.{◌≡◌, ◌≢◌, ◌*◌, ◌<◌, ℕ, List, IfOk, MatchOption, length, slice_index};
+ghost use Rattle.linear_algebra.specs.Rows.{rows_of, IsGrid, IsInSpan, SameSpan};
+ghost use Rattle.linear_algebra.specs.Reduced.{IsReduced, pivots_of};
+ghost use Rattle.linear_algebra.specs.Separators.{IsFunctionalAt, IsSeparated};
+ghost use Rattle.fp_linear.specs.Slices.{AreElements};
 ghost use Rattle.fp_linear.specs.Matrix.{PlainMatrix};
 
-use crate::add::add_within;
+use crate::clearing::clear_row;
 use crate::echelon::echelon_rows;
 use crate::field::Field;
 use crate::matrix::Matrix;
@@ -24,95 +23,71 @@ pub fn separating(alloc: Global, rows: &Matrix, x: &[u8]) -> Result<Option<Vec<u
     let field = rows.field();
     let row_count = rows.rows();
     let col_count = rows.cols();
-    let count = row_count as usize;
-    let cols = col_count as usize;
     let mut entries = rows.entries_in(alloc)?;
-    let mut pivots = vec![in alloc; 0u32; count]?;
+    let mut pivots = vec![in alloc; 0u32; row_count as usize]?;
     let rank = echelon_rows(field, row_count, col_count, &mut entries, &mut pivots) as usize;
-    entries.extend_from_slice(x)?;
-    clear_within(field, count, cols, rank, &pivots, &mut entries);
-    match first_nonzero(&entries, count * cols, cols) {
+    let count = rank * col_count as usize;
+    let functional = separating_by(alloc, field, &entries[..count], &pivots[..rank], x)?;
+    Ok(functional)
+}
+
+// The same for rows in reduced row form and their pivots, and so for all rows that have the same combinations.
+fn separating_by(
+    alloc: Global,
+    field: Field,
+    rows: &[u8],
+    pivots: &[u32],
+    x: &[u8],
+) -> Result<Option<Vec<u8>>, AllocError>
+    requires rows_elements { AreElements field rows.now }
+    requires elements { AreElements field x.now }
+    requires shape { length rows.now ≡ length pivots.now * length x.now }
+    requires reduced { IsReduced (length x.now) (rows_of (length pivots.now) (length x.now) rows.now) }
+    requires pivots { pivots.now ≡ pivots_of (rows_of (length pivots.now) (length x.now) rows.now) }
+    ensures { IfOk result (λ o. MatchOption o
+        (IsInSpan field (length x.now) (rows_of (length pivots.now) (length x.now) rows.now) x.now)
+        (λ y. (k : ℕ) (start : List (List ℕ)) → IsGrid field k (length x.now) start → SameSpan field (length x.now) start (rows_of (length pivots.now) (length x.now) rows.now) → IsSeparated field (length x.now) start x.now y.items)) }
+{
+    let mut rest = Vec::from_slice(alloc, x)?;
+    clear_row(field, rows, pivots, &mut rest);
+    match first_nonzero(&rest) {
         None => Ok(None),
         Some(column) => {
-            let mut functional = vec![in alloc; 0u8; cols]?;
-            write_functional(
-                field,
-                cols,
-                rank,
-                column,
-                &entries,
-                &pivots,
-                &mut functional,
-            );
+            let mut functional = vec![in alloc; 0u8; x.len()]?;
+            write_functional(field, column, rows, pivots, &mut functional);
             Ok(Some(functional))
         }
     }
 }
 
-// Takes multiples of the first `rank` rows, which are in reduced row form, from row `row`, so that its entries at their pivots vanish.
-fn clear_within(
-    field: Field,
-    row: usize,
-    cols: usize,
-    rank: usize,
-    pivots: &[u32],
-    entries: &mut [u8],
-)
-    requires shape { (row + 1) * cols ≤ length entries.old }
-    requires elements { AreElements field entries.old }
-    requires fits { rank ≤ row }
-    requires room { rank ≤ length pivots.now }
-    requires inside { (i : ℕ) → i < rank → slice_index pivots.now i < cols }
-    requires cleared { (i k : ℕ) → i < rank → k < rank → k ≢ i → cell cols entries.old k (slice_index pivots.now i) ≡ 0 }
-    ensures cleared { IsRowCleared field cols row rank (slice_index pivots.now) (cell cols entries.old) (cell cols entries.new) }
-    ensures elements { AreElements field entries.new }
-{
-    for i in 0..rank {
-        let factor = field.neg(entries[row * cols + pivots[i] as usize]);
-        if factor != 0 {
-            add_within(field, factor, i * cols, row * cols, cols, entries);
-        }
-    }
-}
-
-// The first place of the `count` entries from `from` on that is not zero.
-fn first_nonzero(entries: &[u8], from: usize, count: usize) -> Option<usize>
-    requires { from + count ≤ length entries.now }
+// The first place of a row that is not zero.
+fn first_nonzero(row: &[u8]) -> Option<usize>
     ensures { MatchOption result
-        ((j : ℕ) → j < count → slice_index entries.now (from + j) ≡ 0)
-        (λ c. (c < count) × (slice_index entries.now (from + c) ≢ 0) × ((j : ℕ) → j < c → slice_index entries.now (from + j) ≡ 0)) }
+        ((j : ℕ) → j < length row.now → slice_index row.now j ≡ 0)
+        (λ c. (c < length row.now) × (slice_index row.now c ≢ 0) × ((j : ℕ) → j < c → slice_index row.now j ≡ 0)) }
 {
-    for j in 0..count {
-        if entries[from + j] != 0 {
+    for j in 0..row.len() {
+        if row[j] != 0 {
             return Some(j);
         }
     }
     None
 }
 
-// Writes the functional of a column over zeros.
-fn write_functional(
-    field: Field,
-    cols: usize,
-    rank: usize,
-    column: usize,
-    entries: &[u8],
-    pivots: &[u32],
-    functional: &mut [u8],
-)
-    requires shape { rank * cols ≤ length entries.now }
-    requires elements { AreElements field entries.now }
-    requires room { rank ≤ length pivots.now }
-    requires functional_shape { length functional.old ≡ cols }
-    requires column_inside { column < cols }
-    requires inside { (i : ℕ) → i < rank → slice_index pivots.now i < cols }
-    requires apart { (i : ℕ) → i < rank → slice_index pivots.now i ≢ column }
-    requires different { (i k : ℕ) → i < rank → k < rank → k ≢ i → slice_index pivots.now k ≢ slice_index pivots.now i }
+// Writes the functional of a column, which is no pivot, over zeros.
+fn write_functional(field: Field, column: usize, rows: &[u8], pivots: &[u32], functional: &mut [u8])
+    requires elements { AreElements field rows.now }
+    requires shape { length rows.now ≡ length pivots.now * length functional.old }
+    requires column_inside { column < length functional.old }
+    requires reduced { IsReduced (length functional.old) (rows_of (length pivots.now) (length functional.old) rows.now) }
+    requires pivots { pivots.now ≡ pivots_of (rows_of (length pivots.now) (length functional.old) rows.now) }
+    requires apart { (i : ℕ) → i < length pivots.now → slice_index pivots.now i ≢ column }
     requires zero { (k : ℕ) → slice_index functional.old k ≡ 0 }
-    ensures { IsFunctionalUpTo field cols column rank (cell cols entries.now) (slice_index pivots.now) (slice_index functional.new) }
+    ensures { IsFunctionalAt field (length functional.old) (rows_of (length pivots.now) (length functional.old) rows.now) column functional.new }
 {
+    let cols = functional.len();
     functional[column] = 1;
-    for i in 0..rank {
-        functional[pivots[i] as usize] = field.neg(entries[i * cols + column]);
+    for i in 0..pivots.len() {
+        functional[pivots[i] as usize] = field.neg(rows[i * cols + column]);
     }
 }

@@ -1,5 +1,5 @@
-use Rattle.std.proofs.Common.{ℕ, ◌≡◌, ◌<◌, ◌+◌, get_or}
+use Rattle.std.proofs.Common.{ℕ, ◌≡◌, ◌<◌, get_or}
 use Rattle.fp_linear.proofs.separate.first_nonzero.Given as goal
 
 abbrev pub invariant-loop-j : goal.invariant-loop-j
-invariant-loop-j l = (k : ℕ) → k < l.j → get_or l.entries (l.from + k) 0 ≡ 0
+invariant-loop-j l = (k : ℕ) → k < l.j → get_or l.row k 0 ≡ 0

@@ -1,7 +1,7 @@
-use Rattle.std.proofs.Common.{ℕ, get_or}
-use Rattle.fp_linear.specs.Slices.{cell}
+use Rattle.std.specs.Prelude.{length}
+use Rattle.linear_algebra.specs.Rows.{rows_of}
 use Rattle.fp_linear.specs.Elimination.{IsFunctionalUpTo}
 use Rattle.fp_linear.proofs.separate.write_functional.Given as goal
 
 abbrev pub invariant-loop-i : goal.invariant-loop-i
-invariant-loop-i l = IsFunctionalUpTo l.field l.cols l.column l.i (cell l.cols l.entries) (λ (i : ℕ). get_or l.pivots i 0) (λ (j : ℕ). get_or l.functional j 0)
+invariant-loop-i l = IsFunctionalUpTo l.field (length l.fn.functional) l.column l.i (rows_of (length l.pivots) (length l.fn.functional) l.rows) l.functional
