@@ -40,7 +40,6 @@ impl Source for SureSource {
     ghost faults = { λ _. 0 };
 
     fn read(&mut self, into: &mut [u8]) -> Result<usize, Failed>
-        ensures count { 0 ≤ 0 }
         ensures failed { OnErr result (Rose 0 0) }
         ensures unread { OnErr result (Some self.new ≡ Some self.old) }
         ensures within { IfOk result (λ n. n ≤ length into.new) }
@@ -102,7 +101,6 @@ impl Sink for SureSink {
     ghost faults = { λ _. 0 };
 
     fn write(&mut self, from: &[u8]) -> Result<usize, Failed>
-        ensures count { 0 ≤ 0 }
         ensures failed { OnErr result (Rose 0 0) }
         ensures untaken { OnErr result (told self.new ≡ told self.old) }
         ensures within { IfOk result (λ n. n ≤ length from.now) }
