@@ -183,6 +183,107 @@ vertex v
 arrow 1 v v
 bound 2
 basis
+> 0 letters of both cases, digits and underscores
+field 2
+vertex a
+vertex B
+vertex b
+vertex _
+vertex Vertex_12
+bound 2
+basis
+> 2 other characters
+field 2
+vertex
+bound 2
+basis
+> 2
+field 2
+vertex abcdefghijklmnopq
+bound 2
+basis
+> 2
+field 2
+vertex a-b
+bound 2
+basis
+> 2
+field 2
+vertex a b
+bound 2
+basis
+> 2
+field 2
+vertex @
+bound 2
+basis
+> 2
+field 2
+vertex [
+bound 2
+basis
+> 2
+field 2
+vertex `
+bound 2
+basis
+> 2
+field 2
+vertex {
+bound 2
+basis
+> 2
+field 2
+vertex /
+bound 2
+basis
+> 2
+field 2
+vertex :
+bound 2
+basis
+> 0 names that begin alike
+field 2
+vertex x
+vertex y
+vertex xy
+bound 2
+basis
+> 4
+field 2
+vertex x
+vertex y
+vertex x
+bound 2
+basis
+> 0
+field 2
+vertex abcdefghijklmnop
+vertex abcdefghijklmno
+bound 2
+basis
+> 3
+field 2
+vertex abcdefghijklmnop
+vertex abcdefghijklmnop
+bound 2
+basis
+> 5
+field 2
+vertex a
+vertex B
+vertex b
+vertex B
+bound 2
+basis
+> 6 an arrow behind itself
+field 2
+vertex 1
+vertex 2
+arrow a 1 2
+bound 3
+relation a.a
+basis
 > 3 bounds
 field 2
 vertex v

@@ -322,6 +322,79 @@ word y.y.y.y.y.y.y.y.y.y.y
 steps 0
 rules 0
 end 1
+> paths of vertices, of arrows and of two arrows, in their order | run
+field 2
+vertex 1
+vertex 2
+arrow x 1 1
+arrow y 1 1
+bound 3
+basis
+< 0
+report 1
+field 2
+vertex 1
+vertex 2
+arrow x 1 1
+arrow y 1 1
+bound 3
+claim 1 line 7 basis
+words 8
+word @1
+word @2
+word x
+word y
+word x.x
+word x.y
+word y.x
+word y.y
+steps 0
+rules 0
+end 1
+> one arrow, and the largest bound | run
+field 2
+vertex 1
+vertex 2
+arrow a 1 2
+bound 32
+basis
+< 0
+report 1
+field 2
+vertex 1
+vertex 2
+arrow a 1 2
+bound 32
+claim 1 line 6 basis
+words 3
+word @1
+word @2
+word a
+steps 0
+rules 0
+end 1
+> long names | run
+field 2
+vertex abcdefghijklmnop
+vertex abcdefghijklmno
+arrow Arrow_1234567890 abcdefghijklmno abcdefghijklmnop
+bound 2
+basis
+< 0
+report 1
+field 2
+vertex abcdefghijklmnop
+vertex abcdefghijklmno
+arrow Arrow_1234567890 abcdefghijklmno abcdefghijklmnop
+bound 2
+claim 1 line 6 basis
+words 3
+word @abcdefghijklmnop
+word @abcdefghijklmno
+word Arrow_1234567890
+steps 0
+rules 0
+end 1
 > too many paths | run
 field 2
 vertex v

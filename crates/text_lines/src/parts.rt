@@ -66,7 +66,7 @@ impl<'a> Parts<'a> {
         }
     }
 
-    /// Takes the next part if it is this word, and says whether it was.
+    /// Takes the next part, and says whether it was this word. The part is gone either way.
     pub fn take_word(&mut self, word: &[u8]) -> bool
         ensures { MatchBool result (self.old ≡ word.now ∷ self.new) ((rest : List (List ℕ)) → ¬ (self.old ≡ word.now ∷ rest)) }
     {
@@ -76,7 +76,7 @@ impl<'a> Parts<'a> {
         }
     }
 
-    /// Takes the next part if it is the numeral of a number up to `most`, and answers the number.
+    /// Takes the next part, and answers the number if it was the numeral of one up to `most`. The part is gone either way.
     pub fn take_numeral(&mut self, most: u64) -> Option<u64>
         ensures within { IfSome result (λ n. n ≤ most) }
         ensures taken { IfSome result (λ n. self.old ≡ decimal n ∷ self.new) }
