@@ -1,5 +1,6 @@
 pub mod LocalWords
 pub mod CanActFrom
+pub mod KeptElements
 pub mod FormRows
 pub mod BehindForms
 pub mod FormsByRows

@@ -3,3 +3,4 @@ pub mod FirstClauses
 pub mod NormalForm
 pub mod WordPlaces
 pub mod TableView
+pub mod LastUses

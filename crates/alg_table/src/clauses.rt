@@ -12,8 +12,9 @@ ghost use Rattle.path_algebra.specs.Derivations.{IsNumber, NamesEarlier, AreStep
 ghost use Rattle.path_algebra.specs.BasisClauses.{StepsHold, RulesHold, RuleHolds, HasFactor};
 ghost use Rattle.path_algebra.specs.ElementTerms.{AreTermsOf, AreTermsOfEach, IsRuleOf, negative};
 
+use crate::elements::elements_for_rules;
 use fp_linear::Field;
-use path_algebra::{Element, Header, Rule, Step, Term, elements_of};
+use path_algebra::{Element, Header, Rule, Step, Term};
 use std::alloc::{AllocError, Global};
 
 /// Whether each step names what stands before it, and each rule a step.
@@ -86,7 +87,7 @@ pub(crate) fn rules_hold(
     requires tails { All (λ (rule : Rule). AreElementTerms header.now rule.tail.terms) rules.now }
     ensures { IfOk result (λ holds. MatchBool holds (RulesHold header.now steps.now rules.now) (¬ RulesHold header.now steps.now rules.now)) }
 {
-    let elements = elements_of(alloc, header, steps)?;
+    let elements = elements_for_rules(alloc, header, steps, rules)?;
     for rule in rules {
         let element = &elements[rule.step as usize - 1];
         if !is_rule_of(header, rule, element.terms.as_slice()) {

@@ -3,7 +3,9 @@
 
 mod checking;
 mod clauses;
+mod elements;
 mod first_clauses;
+mod last_uses;
 pub mod laws;
 mod places;
 mod reduced;

@@ -1,5 +1,5 @@
 -- Rules and the terms of what they say is zero.
-use Rattle.std.proofs.Common.{ℕ, suc, ◌≡◌, ◌<◌, ◌-◌, inl, inr, List, [], ◌∷◌, map, length, get_or, refl, sym, ap, ap₂, ◌∙◌, subst, arith, mod-eq_of_lt}
+use Rattle.std.proofs.Common.{ℕ, suc, ◌≡◌, ◌<◌, inl, inr, List, [], ◌∷◌, map, length, get_or, refl, sym, ap, ap₂, ◌∙◌, subst, arith, mod-eq_of_lt}
 use Rattle.std.specs.Prelude.{Contains, All}
 use Rattle.std.proofs.lemmas.Bool.{cases_lt}
 use Rattle.std.proofs.lemmas.List.{get_or_default}
@@ -12,18 +12,16 @@ use Rattle.quiver_paths.specs.PathOrder.{IsSmaller}
 use Rattle.quiver_paths.proofs.ListLemmas.{AllPairs-map, Contains-map, Contains-from_map}
 use Rattle.path_algebra.specs.declared.Term.{Term}
 use Rattle.path_algebra.specs.declared.Header.{Header}
-use Rattle.path_algebra.specs.declared.rules.Element.{Element}
 use Rattle.path_algebra.specs.declared.rules.Rule.{Rule}
 use Rattle.path_algebra.specs.declared.rules.Step.{Step}
 use Rattle.path_algebra.specs.Elements.{path_element, sum_of_terms}
 use Rattle.path_algebra.specs.Words.{IsShortPath}
 use Rattle.path_algebra.specs.Rules.{AreElementTerms, rule_element}
-use Rattle.path_algebra.specs.Derivations.{element_at, step_elements, IsNumber}
+use Rattle.path_algebra.specs.Derivations.{element_at, step_elements}
 use Rattle.path_algebra.specs.BasisClauses.{RuleHolds}
-use Rattle.path_algebra.specs.ElementTerms.{AreTermsOf, AreTermsOfEach, negative, rule_terms, IsRuleOf}
+use Rattle.path_algebra.specs.ElementTerms.{AreTermsOf, negative, rule_terms, IsRuleOf}
 use Rattle.path_algebra.proofs.ElementLemmas.{path_element-below}
 use Rattle.path_algebra.proofs.TermLists.{sum_of_terms-nil, sum_of_terms-cons, AreElementTerms-cons, AreElementTerms-below, terms_from_element}
-use Rattle.path_algebra.proofs.Derived.{numbered}
 
 -- ---- negatives
 
@@ -102,14 +100,7 @@ negatives_from_items q (x ∷ xs) (y ∷ ys) e same =
 
 -- ---- all rules
 
--- one of the rules, and the element of its step
-pub rule_at : (h : Header) (steps : List Step) (rules : List Rule) (elements : List Element) (k : ℕ) (rule : Rule) (e : Element) → k < length rules → rule ≡ get_or rules k rule
-    → All (λ (r : Rule). IsNumber (length steps) r.step) rules → AreTermsOfEach h elements (step_elements h steps) → length elements ≡ length steps → e ≡ get_or elements (rule.step - 1) e
-    → AreTermsOf h (element_at (step_elements h steps) rule.step) e.terms
-rule_at h steps rules elements k rule e l is numbers each count at =
-    numbered h elements (step_elements h steps) rule.step e each
-    (subst (λ n. IsNumber n rule.step) (sym count) (subst (λ (r : Rule). IsNumber (length steps) r.step) (sym is) (numbers k rule l))) at
-
+-- one of the rules
 pub tail_at : (h : Header) (rules : List Rule) (k : ℕ) (rule : Rule) → k < length rules → rule ≡ get_or rules k rule → All (λ (r : Rule). AreElementTerms h r.tail.terms) rules → AreElementTerms h rule.tail.terms
 tail_at h rules k rule l is all = subst (λ (r : Rule). AreElementTerms h r.tail.terms) (sym is) (all k rule l)
 

@@ -1,5 +1,5 @@
 -- Elements kept as descending lists of terms, and how they are added.
-use Rattle.std.specs.Prelude.{ℕ, ◌≡◌, ◌≢◌, ◌<◌, ◌+◌, ◌++◌, List, [], ◌∷◌, length, map, slice_index_or, Contains, ◌&&◌, ◌==◌, nat_lt, Bool}
+use Rattle.std.specs.Prelude.{ℕ, ◌≡◌, ◌≢◌, ◌<◌, ◌+◌, ◌++◌, List, [], ◌∷◌, map, Contains, ◌&&◌, ◌==◌, nat_lt, Bool}
 use Rattle.std.specs.List.{filter}
 use Rattle.linear_algebra.specs.Field.{Gf, add, mul, neg}
 use Rattle.quiver_paths.specs.declared.Path.{Path}
@@ -7,7 +7,6 @@ use Rattle.quiver_paths.specs.Path.{path_length, concat}
 use Rattle.quiver_paths.specs.PathOrder.{IsSmaller}
 use Rattle.path_algebra.specs.declared.Term.{Term}
 use Rattle.path_algebra.specs.declared.Header.{Header}
-use Rattle.path_algebra.specs.declared.rules.Element.{Element}
 use Rattle.path_algebra.specs.declared.rules.Rule.{Rule}
 use Rattle.path_algebra.specs.Elements.{sum_of_terms}
 use Rattle.path_algebra.specs.Rules.{AreElementTerms}
@@ -56,11 +55,6 @@ terms_behind t u terms = map (term_behind u) (filter (goes_behind t u) terms)
 
 abbrev pub terms_before : ℕ → Path → List Term → List Term
 terms_before t u terms = map (term_before u) (filter (goes_before t u) terms)
-
--- the elements, in their order, are those of the list
-pub record AreTermsOfEach (h : Header) (elements : List Element) (xs : List (Path → ℕ)) : Type 0 where
-  pub count : length elements ≡ length xs
-  pub each : (k : ℕ) (e : Element) (x : Path → ℕ) → k < length xs → AreTermsOf h (slice_index_or xs k x) (slice_index_or elements k e).terms
 
 -- the negative of a term, and the terms of the tip less the tail
 abbrev pub negative : Gf → Term → Term

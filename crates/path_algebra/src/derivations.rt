@@ -1,92 +1,21 @@
-//! The elements of the steps of a derivation, kept as descending terms.
-ghost use Rattle.std.specs.Prelude.{ℕ, ◌≡◌, ◌<◌, ◌≤◌, ◌++◌, ◌∷◌, [], List, ◌-◌, length, slice_index_or, IfOk, OnOk, All, Contains};
+//! The elements that a derivation begins with, and their products with arrows, as descending terms.
+ghost use Rattle.std.specs.Prelude.{◌≡◌, ◌<◌, ◌≤◌, ◌++◌, ◌∷◌, [], IfOk, OnOk, Contains};
 ghost use Rattle.linear_algebra.specs.Field.{add, mul};
 ghost use Rattle.quiver_paths.specs.declared.Path.{Path};
 ghost use Rattle.quiver_paths.specs.Path.{IsPath, path_length, arrow_path};
 ghost use Rattle.quiver_paths.specs.Quiver.{arrow_count};
 ghost use Rattle.path_algebra.specs.declared.Term.{Term};
-ghost use Rattle.path_algebra.specs.declared.rules.Element.{Element};
 ghost use Rattle.path_algebra.specs.Elements.{sum_of_terms, path_element};
 ghost use Rattle.path_algebra.specs.Ideals.{relation_element};
 ghost use Rattle.path_algebra.specs.Allowed.{IsAllowed, IsTerm};
 ghost use Rattle.path_algebra.specs.Rules.{AreElementTerms};
-ghost use Rattle.path_algebra.specs.Derivations.{IsNumber, NamesEarlier, AreSteps, step_element, step_elements};
-ghost use Rattle.path_algebra.specs.BasisClauses.{HasFactor};
-ghost use Rattle.path_algebra.specs.ElementTerms.{terms_behind, terms_before, AreTermsOf, AreTermsOfEach};
+ghost use Rattle.path_algebra.specs.ElementTerms.{terms_behind, terms_before, AreTermsOf};
 
 use crate::sums::plus_multiple;
-use crate::{Element, Header, Relation, Step, Term};
+use crate::{Header, Relation, Term};
 use quiver_paths::{Path, concat};
 use seq::Seq;
 use std::alloc::{AllocError, Global};
-
-/// The elements of the steps, in their order.
-pub fn elements_of(
-    alloc: Global,
-    header: &Header,
-    steps: &[Step],
-) -> Result<Vec<Element>, AllocError>
-    requires allowed { IsAllowed header.now }
-    requires steps { AreSteps header.now steps.now }
-    requires factors { All (HasFactor header.now) steps.now }
-    ensures { IfOk result (λ elements. AreTermsOfEach header.now elements.items (step_elements header.now steps.now)) }
-{
-    let mut elements = Vec::new(alloc);
-    for step in steps {
-        let terms = terms_of_step(alloc, header, &elements, *step)?;
-        elements.push(Element {
-            terms: Seq::from_vec(terms),
-        })?;
-    }
-    Ok(elements)
-}
-
-/// The terms of a step's element, from the elements of the steps before it.
-fn terms_of_step(
-    alloc: Global,
-    header: &Header,
-    elements: &[Element],
-    step: Step,
-) -> Result<Vec<Term>, AllocError>
-    requires allowed { IsAllowed header.now }
-    requires named { NamesEarlier header.now (length elements.now) step }
-    requires factor { HasFactor header.now step }
-    requires elements { All (λ (e : Element). AreElementTerms header.now e.terms) elements.now }
-    ensures { (earlier : List (Path → ℕ)) → AreTermsOfEach header.now elements.now earlier → IfOk result (λ terms. AreTermsOf header.now (step_element header.now earlier step) terms.items) }
-{
-    match step {
-        Step::Relation(number) => {
-            let relation = &header.relations[number as usize - 1];
-            let terms = terms_of_relation(alloc, header, relation)?;
-            Ok(terms)
-        }
-        Step::Left(arrow, number) => {
-            let path = arrow_path(alloc, header, arrow)?;
-            let terms = terms_behind(alloc, header, &path, terms_at(elements, number))?;
-            Ok(terms)
-        }
-        Step::Right(number, arrow) => {
-            let path = arrow_path(alloc, header, arrow)?;
-            let terms = terms_before(alloc, header, terms_at(elements, number), &path)?;
-            Ok(terms)
-        }
-        Step::Add(number, factor, other) => {
-            let first = terms_at(elements, number);
-            let second = terms_at(elements, other);
-            let terms = plus_multiple(alloc, header, first, factor, second)?;
-            Ok(terms)
-        }
-    }
-}
-
-/// The terms of the element with this number, counted from 1.
-fn terms_at(elements: &[Element], number: u32) -> &[Term]
-    requires { IsNumber (length elements.now) number }
-    ensures { (e : Element) → result.now ≡ (slice_index_or elements.now (number - 1) e).terms }
-{
-    let element = &elements[number as usize - 1];
-    element.terms.as_slice()
-}
 
 /// The terms of a relation that are shorter than the bound, in descending order.
 pub fn terms_of_relation(

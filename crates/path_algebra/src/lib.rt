@@ -15,7 +15,7 @@ mod rules;
 mod sums;
 mod tips;
 
-pub use derivations::{arrow_path, elements_of, terms_before, terms_behind, terms_of_relation};
+pub use derivations::{arrow_path, terms_before, terms_behind, terms_of_relation};
 pub use path_places::{path_place, then_arrow};
 pub use rules::{BasisFault, Element, Rule, Step};
 pub use sums::plus_multiple;
