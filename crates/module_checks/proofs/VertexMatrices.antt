@@ -94,7 +94,7 @@ no_columns_reduced f e = (λ i. 0, record {
   after = λ i r l b. absurd (omega arith);
 })
 
-abbrev some_matrix : Gf → PlainMatrix
+abbrev pub some_matrix : Gf → PlainMatrix
 some_matrix q = plain q 0 0 []
 
 module _ {q : Gf} {Q : Quiver} (X Y : Rep q Q) (matrices : List PlainMatrix) (M : AreMatrices q Q.vertices X.dim Y.dim matrices) where
@@ -107,7 +107,7 @@ module _ {q : Gf} {Q : Quiver} (X Y : Rep q Q) (matrices : List PlainMatrix) (M 
   pub member : (v : ℕ) (p : PlainMatrix) → v < Q.vertices → IsPlainOf (slice_index_or matrices v p) (family_of X Y matrices v)
   member v p l = plain_of_shape q (X.dim v) (Y.dim v) v matrices p (in_list v l) (M.each v p l)
 
-  rows_are : (v : ℕ) (p : PlainMatrix) → v < Q.vertices → rows_at matrices v ≡ (slice_index_or matrices v p).rows
+  pub rows_are : (v : ℕ) (p : PlainMatrix) → v < Q.vertices → rows_at matrices v ≡ (slice_index_or matrices v p).rows
   rows_are v p l = get_or-map (λ (m : PlainMatrix). m.rows) matrices v p [] (in_list v l)
 
   grid_at : (v : ℕ) (p : PlainMatrix) → v < Q.vertices → IsGrid q (X.dim v) (Y.dim v) (slice_index_or matrices v p).rows
@@ -187,8 +187,11 @@ module _ {q : Gf} {Q : Quiver} (X Y Z : Rep q Q) (first second : List PlainMatri
         zero_of_product (family_of X Y first v) (family_of Y Z second v) _ _ (member X Y first F v a l) (member Y Z second G v b l) (h v);
   }
 
+swapped : (x y z : ℕ) → x + y ≡ z → y + x ≡ z
+swapped x y z e = omega (arith, e)
+
 -- Dimensions and ranks at the vertices.
-module _ {q : Gf} {Q : Quiver} (n a b : Module) (f : List PlainMatrix) (F : AreMatrices q Q.vertices (dim_at Q a.dims) (dim_at Q b.dims) f) where
+module _ {q : Gf} (Q : Quiver) (n a b : Module) (f : List PlainMatrix) (F : AreMatrices q Q.vertices (dim_at Q a.dims) (dim_at Q b.dims) f) where
   abbrev part : Rep q Q
   part = rep_of q Q n
 
@@ -213,9 +216,6 @@ module _ {q : Gf} {Q : Quiver} (n a b : Module) (f : List PlainMatrix) (F : AreM
         let l = is_vertex from to f F v k in
         ap₂ (λ x y. x + y) (sym (dim_at-is Q n.dims v l)) (rank_there from to f F v p l) ∙ h v ∙ dim_at-is Q a.dims v l;
   }
-
-  swapped : (x y z : ℕ) → x + y ≡ z → y + x ≡ z
-  swapped x y z e = omega (arith, e)
 
   pub cokernel_size : HaveRanks (length f) n.dims b.dims f → HasCokernelSize from to part (family_of from to f)
   cokernel_size h w = elim (cases_lt w Q.vertices) [
@@ -309,7 +309,7 @@ places-more m n rows k least p h b is = record {
 
 pub places_fail : (a : PlainMatrix) (k least : ℕ) → k < a.col_count → HavePlaces a.row_count a.col_count a.rows k least
     → ((p : ℕ) → least ≤ p → IsPlaceOf a.row_count a.col_count a.rows k p → ⊥) → IsColumnReduced a → ⊥
-places_fail a k least l h no c = no (c.place k) (elim (cases_eq k 0) [
+places_fail a k least l h none c = none (c.place k) (elim (cases_eq k 0) [
   | inl e ↦ let f = h.first e in omega (arith, f)
   | inr d ↦
       let last : suc (k - 1) ≡ k = omega arith in
@@ -391,7 +391,7 @@ copied_more a e v s l d h = record {
 pub copied_elements : (a : PlainMatrix) (e : ℕ) (s : List ℕ) → IsMatrix a → length s ≤ e → HoldsEntries a e s → AreElements a.field s
 copied_elements a e s is l h = record {
   small = λ k. elim (cases_lt k (length s)) [
-    | inl b ↦ rw h.at k (omega (arith, l, b)) (is.grid.small (k / a.col_count) (k % a.col_count))
-    | inr b ↦ rw get_or_past s k 0 b (order-pos a.field)
+    | inl b ↦ rw (h.at k (omega (arith, l, b))) (is.grid.small (k / a.col_count) (k % a.col_count))
+    | inr b ↦ rw (get_or_past s k 0 b) (order-pos a.field)
   ];
 }

@@ -6,7 +6,7 @@ pub returns-then-not-are_column_reduced : goal.returns-then-not-are_column_reduc
 returns-then-not-are_column_reduced c = (1, (tt, (refl, λ r. c.if-not-are_column_reduced.ensures (column_reduced_no c.args.header.now c.args.a.now c.args.b.now c.args.n.now c.args.p.now c.requires.p r))))
 
 pub are_zero_products-requires : goal.are_zero_products-requires
-are_zero_products-requires c = products_there c.args.header.now c.args.a.now c.args.a.now c.args.b.now c.args.f.now c.requires.f c.args.n.now c.args.p.now c.requires.p
+are_zero_products-requires c = record { fit = products_there c.args.header.now c.args.a.now c.args.a.now c.args.b.now c.args.f.now c.requires.f c.args.n.now c.args.p.now c.requires.p }
 
 pub returns-then-not-are_zero_products : goal.returns-then-not-are_zero_products
 returns-then-not-are_zero_products c =

@@ -6,7 +6,7 @@ pub returns-then-not-are_reduced : goal.returns-then-not-are_reduced
 returns-then-not-are_reduced c = (1, (tt, (refl, λ r. c.if-not-are_reduced.ensures (reduced_no c.args.header.now c.args.a.now c.args.n.now c.args.a.now c.args.i.now c.requires.i r))))
 
 pub are_zero_products-requires : goal.are_zero_products-requires
-are_zero_products-requires c = products_there c.args.header.now c.args.a.now c.args.n.now c.args.a.now c.args.i.now c.requires.i c.args.b.now c.args.f.now c.requires.f
+are_zero_products-requires c = record { fit = products_there c.args.header.now c.args.a.now c.args.n.now c.args.a.now c.args.i.now c.requires.i c.args.b.now c.args.f.now c.requires.f }
 
 pub returns-then-not-are_zero_products : goal.returns-then-not-are_zero_products
 returns-then-not-are_zero_products c =
