@@ -25,10 +25,10 @@ module _ (h : Header) (a : Module) where
   pub dims_fit : (m x y : Module) (f : List PlainMatrix) → IsModule h.field (algebra_at m.side h).quiver m → IsMap h.field (quiver_of h.quiver) x y f → length m.dims ≡ length f
   dims_fit m x y f M F = M.counted ∙ vertices_of_side m.side h ∙ sym F.counted
 
-  small_dim : (m : Module) → dimension m.dims ≤ 256 → (v : ℕ) → (read_beside h a m).dim v ≤ 256
+  pub small_dim : (m : Module) → dimension m.dims ≤ 256 → (v : ℕ) → (read_beside h a m).dim v ≤ 256
   small_dim m s v = let d = dim_within (algebra_at a.side h).quiver m.dims v in omega (arith, d, s)
 
-  beside : (x y : Module) (f : List PlainMatrix) → IsMap h.field (quiver_of h.quiver) x y f → AreMatrices h.field (algebra_at a.side h).quiver.vertices (read_beside h a x).dim (read_beside h a y).dim f
+  pub beside : (x y : Module) (f : List PlainMatrix) → IsMap h.field (quiver_of h.quiver) x y f → AreMatrices h.field (algebra_at a.side h).quiver.vertices (read_beside h a x).dim (read_beside h a y).dim f
   beside x y f F = map_beside h a.side x y f F
 
   module _ (x y : Module) (f : List PlainMatrix) (F : IsMap h.field (quiver_of h.quiver) x y f) where
