@@ -222,7 +222,7 @@ module _ {q : Gf} {Q : Quiver} (X : Rep q Q) where
         same_entry : r ≡ a.row_count → HoldsEntries a (a.row_count * a.col_count) new → (i j : ℕ) → i < r → j < X.dim w → reduced_rows.at i j ≡ (as_mat q a.row_count (X.dim w) a.rows).at i j
         same_entry e h i j l k =
             entry_of_form i j l k
-            ∙ h.at (i * X.dim w + j) (let p = mul-add-lt i (X.dim w) j a.row_count (subst (λ z. i < z) e l) k in subst (λ n. i * X.dim w + j < a.row_count * n) (sym columns) p)
+            ∙ h.at (i * X.dim w + j) (let p = mul-add-lt i (X.dim w) j a.row_count (subst (λ z. i < z) e l) k in let p' : i * X.dim w + j < a.row_count * X.dim w = omega (arith, p) in subst (λ n. i * X.dim w + j < a.row_count * n) (sym columns) p')
             ∙ ap (λ n. entry a.rows ((i * X.dim w + j) / n) ((i * X.dim w + j) % n)) columns
             ∙ ap₂ (entry a.rows) (div-mul-add i (X.dim w) j k) (mod-mul-add i (X.dim w) j k)
             ∙ sym (as_mat-entry q a.row_count (X.dim w) a.rows grid i j)

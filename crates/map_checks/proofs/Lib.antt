@@ -1,3 +1,5 @@
 pub mod KernelTests
 pub mod ArrowRows
 pub mod RadicalTests
+pub mod BlockParts
+pub mod PartTests

@@ -28,7 +28,7 @@ pub use hom::first_failing_hom;
 pub use homs::equations_rank;
 pub use images::fold_images;
 pub use long_paths::long_paths_act_as_zero;
-pub use maps::is_homomorphism;
+pub use maps::{is_homomorphism, same_side};
 pub use meeting::all_meet;
 pub use modules::is_module;
 pub use ranks::{have_ranks, rank_of};
