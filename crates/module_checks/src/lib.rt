@@ -36,6 +36,4 @@ pub use reduced::is_reduced;
 pub use relations::relations_act_as_zero;
 pub use spreading::add_row;
 pub use vertex_matrices::{are_column_reduced, are_reduced};
-pub use zero_products::{
-    are_unit_products, are_zero_products, is_unit_product, is_zero_product,
-};
+pub use zero_products::{are_unit_products, are_zero_products, is_unit_product, is_zero_product};
