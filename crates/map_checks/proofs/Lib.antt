@@ -3,3 +3,4 @@ pub mod ArrowRows
 pub mod RadicalTests
 pub mod BlockParts
 pub mod PartTests
+pub mod DecompositionTests

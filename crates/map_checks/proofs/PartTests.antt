@@ -11,10 +11,16 @@ use Rattle.module_types.specs.declared.Side.{Side}
 use Rattle.module_types.specs.declared.Module.{Module}
 use Rattle.module_types.specs.Readings.{rep_of, dim_at}
 use Rattle.module_types.specs.Written.{part_at}
+use Rattle.module_types.specs.Algebras.{algebra_at}
+use Rattle.module_types.specs.Shapes.{IsModule, dimension}
+use Rattle.path_algebra.specs.declared.Header.{Header}
+use Rattle.quiver_paths.specs.Quiver.{vertex_count}
+use Rattle.module_checks.proofs.Walks.{dim_within}
+use Rattle.map_checks.proofs.KernelTests.{vertices_of_side}
 use Rattle.claim_conditions.specs.DecompositionConditions.{ComesBefore, AreInOrder}
 use Rattle.module_checks.proofs.HomRank.{dim_at-is}
 use Rattle.map_checks.specs.BlockParts.{HasPart, HasParts, HoldsStarts, IsFull, HasRoom, AreEnds}
-use Rattle.map_checks.specs.PartLists.{HaveSide}
+use Rattle.map_checks.specs.PartLists.{HaveSide, AreModules, IsWholeSum}
 use Rattle.map_checks.proofs.BlockParts.{part_moved}
 
 module_same : (xs : List Module) (k : ℕ) (a p : Module) → k < length xs → a ≡ slice_index_or xs k a → slice_index_or xs k p ≡ a
@@ -76,3 +82,40 @@ module _ (q : Gf) (Q : Quiver) (side : Side) (s : Module) (xs : List Module) whe
 
   pub there_full : (k : ℕ) (starts : List ℕ) → length s.dims ≡ Q.vertices → HoldsStarts (part_at q Q side xs) k Q.vertices starts → IsFull sum (part_at q Q side xs) k Q.vertices → AreEnds s.dims starts (length s.dims)
   there_full k starts c h f = record { at = λ v b. let l : v < Q.vertices = omega (arith, b, c) in h.at v l ∙ f.at v l ∙ dim_at-is Q s.dims v l }
+
+pub order_more : (xs : List Module) (k : ℕ) (a b : Module) → 0 < k → k < length xs → a ≡ slice_index_or xs (k - 1) a → b ≡ slice_index_or xs k b → AreOrderedUpTo xs k → ComesBefore a b → AreOrderedUpTo xs (k + 1)
+order_more xs k a b l m e f h c = record {
+  each = λ i x y n. elim (cases_eq (suc i) k) [
+    | inl same ↦
+        let before : k - 1 ≡ i = omega arith in
+        subst (λ z. ComesBefore z (slice_index_or xs (suc i) y)) (sym (module_same xs i a x (omega arith) (e ∙ ap (λ i. slice_index_or xs i a) before)))
+        (subst (ComesBefore a) (sym (module_same xs (suc i) b y (omega arith) (f ∙ ap (λ i. slice_index_or xs i b) (sym same)))) c)
+    | inr other ↦ h.each i x y (omega arith)
+  ];
+}
+
+pub order_there : (xs : List Module) (k : ℕ) (a b : Module) → 0 < k → k < length xs → a ≡ slice_index_or xs (k - 1) a → b ≡ slice_index_or xs k b → AreInOrder xs → ComesBefore a b
+order_there xs k a b l m e f h =
+    let same : suc (k - 1) ≡ k = omega arith in
+    subst (λ z. ComesBefore z b) (sym e) (subst (ComesBefore (slice_index_or xs (k - 1) a)) (ap (λ i. slice_index_or xs i b) same ∙ sym f) (h (k - 1) a b (omega arith)))
+
+pub order_all : (xs : List Module) (k : ℕ) → length xs ≤ k → AreOrderedUpTo xs k → AreInOrder xs
+order_all xs k l h i a b m = h.each i a b (omega arith)
+
+pub dims_of : (h : Header) (xs : List Module) (k : ℕ) (a : Module) → AreModules h xs → k < length xs → a ≡ slice_index_or xs k a → length a.dims ≡ vertex_count h.quiver
+dims_of h xs k a m l e = ap (λ (z : Module). length z.dims) e ∙ (m.each k a l).counted ∙ vertices_of_side (slice_index_or xs k a).side h
+
+-- a part has the shapes of the side that all have
+pub shape_of : (h : Header) (side : Side) (xs : List Module) (n k : ℕ) (a : Module) → AreModules h xs → HaveSide side xs n → k < length xs → k < n → a ≡ slice_index_or xs k a → IsModule h.field (algebra_at side h).quiver a
+shape_of h side xs n k a m s l b e =
+    subst (λ z. IsModule h.field (algebra_at side h).quiver z) (sym e) (subst (λ side. IsModule h.field (algebra_at side h).quiver (slice_index_or xs k a)) (s.each k a b) (m.each k a l))
+
+-- room for a part leaves the places small
+pub places_small : (q : Gf) (Q : Quiver) (s a : Module) (starts : List ℕ) → length s.dims ≡ Q.vertices → length a.dims ≡ Q.vertices → dimension s.dims ≤ 256 → HasPart (rep_of q Q s) (rep_of q Q a) (slice_index starts)
+    → (v : ℕ) → v < length a.dims → slice_index starts v + slice_index a.dims v ≤ 256
+places_small q Q s a starts c d small h v l =
+    let b : v < Q.vertices = omega (arith, l, d) in
+    let f = h.fits.at v b in
+    let x = dim_at-is Q a.dims v b in
+    let y = dim_within Q s.dims v in
+    omega (arith, f, x, y, small)

@@ -16,7 +16,7 @@ use crate::parts::Parts;
 use crate::sums::{are_ends, clear_starts, has_part, pass_part};
 use claim_conditions::Clause;
 use fp_linear::Matrix;
-use module_checks::are_unit_products;
+use module_checks::{are_unit_products, same_side};
 use module_types::{Module, Side};
 use path_algebra::Header;
 use seq::Seq;
@@ -71,4 +71,45 @@ fn is_sum<P: Parts>(
         pass_part(&part.dims, starts);
     }
     are_ends(&s.dims, starts)
+}
+
+/// The first condition on a decomposition that fails, where the numbers say that `to` goes from `s` to `a` and `back` from `a` to `s`, and that a claim
+/// shows each part to be local. The slice of 32 numbers is worked in.
+pub fn first_failing_decomposition<P: Parts>(
+    header: &Header,
+    a: &Module,
+    s: &Module,
+    parts: &P,
+    to: &Seq<Matrix>,
+    back: &Seq<Matrix>,
+    starts: &mut [u32],
+) -> Option<Clause>
+    requires allowed { IsAllowed header.now }
+    requires a { IsModule header.now.field (algebra_at a.now.side header.now).quiver a.now }
+    requires s { IsModule header.now.field (algebra_at s.now.side header.now).quiver s.now }
+    requires parts { AreModules header.now (P.modules parts.now) }
+    requires to { IsMap header.now.field (quiver_of header.now.quiver) s.now a.now to.now }
+    requires back { IsMap header.now.field (quiver_of header.now.quiver) a.now s.now back.now }
+    requires starts { 32 ≤ length starts.old }
+    ensures { IsAnswer (decomposition_conditions ⊤ header.now a.now s.now (P.modules parts.now) to.now back.now) result }
+{
+    if !same_side(s.side, a.side) {
+        return Some(Clause::Objects);
+    }
+    if !have_side(a.side, parts) {
+        return Some(Clause::Objects);
+    }
+    if !are_in_order(header, parts) {
+        return Some(Clause::Order);
+    }
+    if !is_sum(header, a.side, s, parts, starts) {
+        return Some(Clause::Sum);
+    }
+    if !are_unit_products(header.field, to, back) {
+        return Some(Clause::Inverse);
+    }
+    if !are_unit_products(header.field, back, to) {
+        return Some(Clause::Inverse);
+    }
+    None
 }

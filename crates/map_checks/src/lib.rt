@@ -9,6 +9,7 @@ mod parts;
 mod radicals;
 mod sums;
 
+pub use decompositions::first_failing_decomposition;
 pub use kernels::{first_failing_cokernel, first_failing_kernel};
 pub use orders::comes_before;
 pub use parts::Parts;
