@@ -1,6 +1,6 @@
 -- A representation is the sum of parts exactly where they are its blocks, one behind another, and nothing else is there.
-use Rattle.std.proofs.Common.{ℕ, zero, suc, ◌<◌, ◌≤◌, ◌≡◌, ◌+◌, ◌-◌, List, length, cond, ltb, lt-ltb, le-ltb, refl, sym, ap, ap₂, ◌∙◌, inl, inr, arith, subst}
-use Rattle.std.specs.Prelude.{slice_index, slice_index_or}
+use Rattle.std.proofs.Common.{ℕ, zero, suc, ◌<◌, ◌≤◌, ◌≡◌, ◌+◌, ◌-◌, List, length, cond, ltb, lt-ltb, le-ltb, refl, sym, ap, ◌∙◌, inl, inr, arith, subst}
+use Rattle.std.specs.Prelude.{slice_index}
 use Rattle.std.proofs.lemmas.Bool.{cases_lt, cases_eq, cond-true, cond-false}
 use Rattle.linear_algebra.specs.Field.{Gf}
 use Rattle.linear_algebra.specs.Rows.{entry}
@@ -18,7 +18,7 @@ use Rattle.module_types.proofs.TermMatrices.{place_in}
 use Rattle.module_types.specs.declared.Module.{Module}
 use Rattle.module_types.specs.Readings.{rep_of, dim_at}
 use Rattle.module_checks.proofs.HomRank.{IsPlainOf, dim_at-is}
-use Rattle.map_checks.specs.BlockParts.{block_entry, IsBlockRow, IsBlock, HasRoomFor, HasBlock, HasBlocks, HasPart, part_start, HasParts, IsFull, HoldsStarts, Ascends, HasRoom, AreEnds}
+use Rattle.map_checks.specs.BlockParts.{block_entry, IsBlockRow, IsBlock, HasRoomFor, HasBlock, HasBlocks, HasPart, part_start, HasParts, IsFull, Ascends, HasRoom}
 
 block_same : (k l : ℕ) (f g : ℕ → ℕ) (j : ℕ) → k ≡ l → ((i : ℕ) → f i ≡ g i) → block_entry k f j ≡ block_entry l g j
 block_same k l f g j e h = ap (λ k. block_entry k f j) e ∙ ap (cond (ltb j l) 0) (h (j - l))
@@ -53,9 +53,9 @@ module _ {q : Gf} {Q : Quiver} (P : ℕ → Rep q Q) where
   part_of_sum zero t h = absurd (omega arith)
   part_of_sum (suc n) t h = elim (cases_eq t n) [
     | inl e ↦ subst (λ t. HasPart (sum_rep (sum_family n P) (P n)) (P t) (λ v. total t (λ u. (P u).dim v))) (sym e) (record {
-        fits = record { at = λ v l. let d = dim_of n v in omega arith };
-        blocks = record { each = λ a l. record { at = λ r j b c. lower_entry ((sum_family n P).mat a) ((P n).mat a) (total n (λ u. (P u).dim (Q.source a))) (total n (λ u. (P u).dim (Q.target a))) r j (sym (dim_of n (Q.source a))) (sym (dim_of n (Q.target a))) } };
-      })
+      fits = record { at = λ v l. let d = dim_of n v in omega arith };
+      blocks = record { each = λ a l. record { at = λ r j b c. lower_entry ((sum_family n P).mat a) ((P n).mat a) (total n (λ u. (P u).dim (Q.source a))) (total n (λ u. (P u).dim (Q.target a))) r j (sym (dim_of n (Q.source a))) (sym (dim_of n (Q.target a))) } };
+    })
     | inr d ↦
         let before = part_of_sum n t (omega arith) in
         record {

@@ -1,6 +1,5 @@
 -- The conditions on a decomposition, and what is decided.
-use Rattle.std.proofs.Common.{ℕ, ◌<◌, ◌≡◌, List, [], length}
-use Rattle.std.specs.Prelude.{All, slice_index_or}
+use Rattle.std.proofs.Common.{◌≡◌, List, [], length}
 use Rattle.std.proofs.lemmas.List.Elements.{All-get_or, All-from_get_or}
 use Rattle.fp_linear.specs.Matrix.{PlainMatrix}
 use Rattle.path_algebra.specs.declared.Header.{Header}

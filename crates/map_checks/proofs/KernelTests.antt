@@ -9,7 +9,7 @@ use Rattle.module_types.specs.declared.Side.{Side}
 use Rattle.module_types.specs.declared.Side.TheVariants.{Right, Left}
 use Rattle.module_types.specs.declared.Module.{Module}
 use Rattle.module_types.specs.Algebras.{algebra_at}
-use Rattle.module_types.specs.Readings.{dim_at, read, read_beside, family_of}
+use Rattle.module_types.specs.Readings.{read_beside, family_of}
 use Rattle.module_types.specs.Shapes.{IsModule, IsMap, AreMatrices, dimension}
 use Rattle.claim_conditions.specs.Families.{AreReduced, AreCoReduced, ComposeToZero, HasKernelSize, HasCokernelSize}
 use Rattle.module_checks.specs.VertexMatrices.{AreAllReduced, AreAllColumnReduced, HaveProducts, AreZeroProducts, HaveRoom, HaveRanks}

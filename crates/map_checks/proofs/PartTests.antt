@@ -1,7 +1,7 @@
 -- Lists of modules, one after another.
-use Rattle.std.proofs.Common.{ℕ, zero, suc, ◌<◌, ◌≤◌, ◌≡◌, ◌+◌, ◌-◌, List, length, refl, sym, ap, ap₂, ◌∙◌, inl, inr, arith, subst, add-one}
-use Rattle.std.specs.Prelude.{slice_index, slice_index_or, All}
-use Rattle.std.proofs.lemmas.Bool.{cases_lt, cases_eq}
+use Rattle.std.proofs.Common.{ℕ, suc, ◌<◌, ◌≤◌, ◌≡◌, ◌+◌, ◌-◌, List, length, refl, sym, ap, ap₂, ◌∙◌, inl, inr, arith, subst, add-one}
+use Rattle.std.specs.Prelude.{slice_index, slice_index_or}
+use Rattle.std.proofs.lemmas.Bool.{cases_eq}
 use Rattle.std.proofs.lemmas.List.{get_or_default}
 use Rattle.linear_algebra.specs.Field.{Gf}
 use Rattle.linear_algebra.specs.BlockFamilies.{total}
@@ -9,7 +9,7 @@ use Rattle.representations.specs.Quiver.{Quiver}
 use Rattle.representations.specs.Rep.{Rep}
 use Rattle.module_types.specs.declared.Side.{Side}
 use Rattle.module_types.specs.declared.Module.{Module}
-use Rattle.module_types.specs.Readings.{rep_of, dim_at}
+use Rattle.module_types.specs.Readings.{rep_of}
 use Rattle.module_types.specs.Written.{part_at}
 use Rattle.module_types.specs.Algebras.{algebra_at}
 use Rattle.module_types.specs.Shapes.{IsModule, dimension}
@@ -19,8 +19,8 @@ use Rattle.module_checks.proofs.Walks.{dim_within}
 use Rattle.map_checks.proofs.KernelTests.{vertices_of_side}
 use Rattle.claim_conditions.specs.DecompositionConditions.{ComesBefore, AreInOrder}
 use Rattle.module_checks.proofs.HomRank.{dim_at-is}
-use Rattle.map_checks.specs.BlockParts.{HasPart, HasParts, HoldsStarts, IsFull, HasRoom, AreEnds}
-use Rattle.map_checks.specs.PartLists.{HaveSide, AreModules, IsWholeSum}
+use Rattle.map_checks.specs.BlockParts.{HasPart, HasParts, HoldsStarts, IsFull, AreEnds}
+use Rattle.map_checks.specs.PartLists.{HaveSide, AreModules}
 use Rattle.map_checks.proofs.BlockParts.{part_moved}
 
 module_same : (xs : List Module) (k : ℕ) (a p : Module) → k < length xs → a ≡ slice_index_or xs k a → slice_index_or xs k p ≡ a

@@ -48,13 +48,7 @@ fn are_in_order<P: Parts>(header: &Header, parts: &P) -> bool
 }
 
 /// Whether the module is the sum of the parts, with their matrices as blocks in their order.
-fn is_sum<P: Parts>(
-    header: &Header,
-    side: Side,
-    s: &Module,
-    parts: &P,
-    starts: &mut [u32],
-) -> bool
+fn is_sum<P: Parts>(header: &Header, side: Side, s: &Module, parts: &P, starts: &mut [u32]) -> bool
     requires allowed { IsAllowed header.now }
     requires s { IsModule header.now.field (algebra_at side header.now).quiver s.now }
     requires parts { AreModules header.now (P.modules parts.now) }

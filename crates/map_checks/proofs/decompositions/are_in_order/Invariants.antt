@@ -1,4 +1,3 @@
-use Rattle.std.proofs.Common.{ℕ, ◌<◌}
 use Rattle.map_checks.proofs.PartTests.{AreOrderedUpTo}
 use Rattle.map_checks.proofs.decompositions.are_in_order.Given as goal
 

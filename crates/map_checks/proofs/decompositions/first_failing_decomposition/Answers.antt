@@ -1,4 +1,4 @@
-use Rattle.std.proofs.Common.{refl, sym, subst}
+use Rattle.std.proofs.Common.{refl, subst}
 use Rattle.module_types.specs.Algebras.{algebra_at}
 use Rattle.module_types.specs.Shapes.{IsModule}
 use Rattle.map_checks.proofs.DecompositionTests.{sides_yes, sides_no, units_there, units_again, inverse_yes, inverse_first, inverse_second}
@@ -26,20 +26,48 @@ returns-then-not-is_sum g c =
 pub are_unit_products-requires : goal.are_unit_products-requires
 are_unit_products-requires g c = record { fit = units_there c.args.header.now c.args.a.now c.args.s.now c.args.to.now c.args.back.now c.requires.to c.requires.back }
 
-pub are_unit_products-2-requires : goal.are_unit_products-2-requires
-are_unit_products-2-requires g c = record { fit = units_again c.args.header.now c.args.a.now c.args.s.now c.args.to.now c.args.back.now c.requires.to c.requires.back }
+pub are_unit_products-requires-2 : goal.are_unit_products-requires-2
+are_unit_products-requires-2 g c = record { fit = units_again c.args.header.now c.args.a.now c.args.s.now c.args.to.now c.args.back.now c.requires.to c.requires.back }
 
 pub returns-then-not-are_unit_products : goal.returns-then-not-are_unit_products
 returns-then-not-are_unit_products g c =
-    let sides = sides_yes c.args.a.now c.args.s.now (g.P.Parts.modules c.args.parts.now) c.if-not-same_side.ensures c.if-not-have_side.ensures in
-    (3, ((tt, sides), (c.if-not-are_in_order.ensures, (c.if-not-is_sum.ensures, (refl, λ i. c.if-not-are_unit_products.ensures
-    (inverse_first c.args.header.now c.args.a.now c.args.s.now c.args.to.now c.args.back.now c.requires.to c.requires.back i))))))
+    let sides = sides_yes c.args.a.now c.args.s.now (g.P.Parts.modules c.args.parts.now) c.if-not-same_side.ensures c.if-not-have_side.ensures in (
+      3,
+      (
+        (tt, sides),
+        (
+          c.if-not-are_in_order.ensures,
+          (
+            c.if-not-is_sum.ensures,
+            (
+              refl,
+              λ i. c.if-not-are_unit_products.ensures
+                  (inverse_first c.args.header.now c.args.a.now c.args.s.now c.args.to.now c.args.back.now c.requires.to c.requires.back i),
+            ),
+          ),
+        ),
+      ),
+    )
 
 pub returns-then-not-are_unit_products-2 : goal.returns-then-not-are_unit_products-2
 returns-then-not-are_unit_products-2 g c =
-    let sides = sides_yes c.args.a.now c.args.s.now (g.P.Parts.modules c.args.parts.now) c.if-not-same_side.ensures c.if-not-have_side.ensures in
-    (3, ((tt, sides), (c.if-not-are_in_order.ensures, (c.if-not-is_sum.ensures, (refl, λ i. c.if-not-are_unit_products-2.ensures
-    (inverse_second c.args.header.now c.args.a.now c.args.s.now c.args.to.now c.args.back.now c.requires.to c.requires.back i))))))
+    let sides = sides_yes c.args.a.now c.args.s.now (g.P.Parts.modules c.args.parts.now) c.if-not-same_side.ensures c.if-not-have_side.ensures in (
+      3,
+      (
+        (tt, sides),
+        (
+          c.if-not-are_in_order.ensures,
+          (
+            c.if-not-is_sum.ensures,
+            (
+              refl,
+              λ i. c.if-not-are_unit_products-2.ensures
+                  (inverse_second c.args.header.now c.args.a.now c.args.s.now c.args.to.now c.args.back.now c.requires.to c.requires.back i),
+            ),
+          ),
+        ),
+      ),
+    )
 
 pub returns : goal.returns
 returns g c =

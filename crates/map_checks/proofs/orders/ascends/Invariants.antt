@@ -1,4 +1,4 @@
-use Rattle.std.proofs.Common.{ℕ, ◌<◌, ◌≤◌, ◌≡◌, ◌+◌}
+use Rattle.std.proofs.Common.{ℕ, ◌<◌, ◌≡◌}
 use Rattle.std.specs.Prelude.{slice_index}
 use Rattle.map_checks.proofs.orders.ascends.Given as goal
 

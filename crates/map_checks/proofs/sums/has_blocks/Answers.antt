@@ -1,4 +1,4 @@
-use Rattle.std.proofs.Common.{◌<◌, ◌≤◌, sym, arith, subst}
+use Rattle.std.proofs.Common.{◌<◌, sym, arith, subst}
 use Rattle.std.specs.Prelude.{slice_index}
 use Rattle.quiver_paths.specs.Quiver.{arrow_count}
 use Rattle.module_types.specs.Algebras.{algebra_at}
