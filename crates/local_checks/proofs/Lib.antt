@@ -1,0 +1,5 @@
+pub mod Spaces
+pub mod Places
+pub mod Composites
+pub mod RowLists
+pub mod Closures

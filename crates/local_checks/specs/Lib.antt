@@ -1,0 +1,6 @@
+pub mod Standing
+pub mod Families
+pub mod Composites
+pub mod Rows
+pub mod Closures
+pub mod Images

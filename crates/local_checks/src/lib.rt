@@ -1,0 +1,13 @@
+//! Deciding in lent memory whether numbers show that an endomorphism ring is local: products of families of matrices, spaces of rows, ideals, their
+//! powers, residue rings. Nothing is allocated, and each call answers on all numbers that have the shapes.
+#![tactic(auto)]
+
+mod composing;
+mod ideals;
+mod members;
+mod rows;
+
+pub use composing::compose;
+pub use ideals::{has_product, is_ideal};
+pub use members::is_member;
+pub use rows::{reduce_rows, write_combinations, write_rows};
