@@ -3,3 +3,5 @@ pub mod Places
 pub mod Composites
 pub mod RowLists
 pub mod Closures
+pub mod Images
+pub mod VertexPowers

@@ -4,3 +4,4 @@ pub mod Composites
 pub mod Rows
 pub mod Closures
 pub mod Images
+pub mod Vertices

@@ -5,9 +5,11 @@
 mod composing;
 mod ideals;
 mod members;
+mod powers;
 mod rows;
 
 pub use composing::compose;
 pub use ideals::{has_product, is_ideal};
 pub use members::is_member;
+pub use powers::power_at;
 pub use rows::{reduce_rows, write_combinations, write_rows};
