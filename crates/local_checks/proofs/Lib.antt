@@ -5,3 +5,4 @@ pub mod RowLists
 pub mod Closures
 pub mod Images
 pub mod VertexPowers
+pub mod PrintedIdeals

@@ -1,5 +1,5 @@
 -- From which power on an ideal of families is zero, vertex by vertex.
-use Rattle.std.proofs.Common.{ℕ, suc, ◌<◌, ◌≤◌, ◌≡◌, ◌≢◌, ◌+◌, ◌*◌, List, get_or, length, take, drop, sym, ap, ap₂, ◌∙◌, inl, inr, arith, subst, add-one}
+use Rattle.std.proofs.Common.{ℕ, suc, ◌<◌, ◌≤◌, ◌≡◌, ◌≢◌, ◌+◌, ◌*◌, List, get_or, length, take, drop, sym, ap, ap₂, ◌∙◌, inl, inr, arith, subst, add-one, nat_eq, eq-eqb, ne_eqb}
 use Rattle.std.proofs.lemmas.Bool.{cases_lt, cases_eq}
 use Rattle.std.proofs.lemmas.List.{get_or-drop, get_or_default}
 use Rattle.std.specs.Prelude.{Bool, true, false, MatchBool, Option, None, Some, MatchOption}
@@ -62,30 +62,30 @@ module _ {q : Gf} {d : ℕ} (k : ℕ) (g : ℕ → Mat q d d) (i r : ℕ) (V : M
 
 -- The vertices one after another.
 module _ {q : Gf} {Q : Quiver} {X : Rep q Q} (M : MatrixAlgebra X) {k : ℕ} (I : Mat q k M.size) where
-  abbrev at_vertex : (v : ℕ) → ℕ → Mat q (X.dim v) (X.dim v)
-  at_vertex v j = (M.element (row j I)).at v
+  abbrev part_at : (v : ℕ) → ℕ → Mat q (X.dim v) (X.dim v)
+  part_at v j = (M.element (row j I)).at v
 
   pub vanish_none : VanishUpTo M I 0 0
   vanish_none = record { zero = λ v s l h. absurd (omega arith); least = λ t h. omega arith }
 
-  pub vanish_more : (n most p next : ℕ) → VanishUpTo M I n most → VanishFrom k (at_vertex n) p → most ≤ next → p ≤ next → ((t : ℕ) → most ≤ t → p ≤ t → next ≤ t) → VanishUpTo M I (n + 1) next
+  pub vanish_more : (n most p next : ℕ) → VanishUpTo M I n most → VanishFrom k (part_at n) p → most ≤ next → p ≤ next → ((t : ℕ) → most ≤ t → p ≤ t → next ≤ t) → VanishUpTo M I (n + 1) next
   vanish_more n most p next h f a b c = record {
     zero = λ v s l u. elim (cases_eq v n) [
-      | inl e ↦ subst (λ (v : ℕ). ProductsVanish k (at_vertex v) s) (sym e) (f.zero s (omega (arith, u, b)))
+      | inl e ↦ subst (λ (v : ℕ). ProductsVanish k (part_at v) s) (sym e) (f.zero s (omega (arith, u, b)))
       | inr o ↦ h.zero v s (omega (arith, l, o)) (omega (arith, u, a))
     ];
     least = λ t z. c t (h.least t (λ v l. z v (omega (arith, l)))) (f.least t (z n (omega arith)));
   }
 
-  pub never_least : (v s : ℕ) → NeverVanish k (at_vertex v) → IsLeastPower (algebra_of M) I s → ⊥
+  pub never_least : (v s : ℕ) → NeverVanish k (part_at v) → IsLeastPower (algebra_of M) I s → ⊥
   never_least v s n l = n s (products_of_power M I s l.vanishes v)
 
-  pub late_not_least : (v s p : ℕ) → VanishFrom k (at_vertex v) p → s < p → IsLeastPower (algebra_of M) I s → ⊥
+  pub late_not_least : (v s p : ℕ) → VanishFrom k (part_at v) p → s < p → IsLeastPower (algebra_of M) I s → ⊥
   late_not_least v s p f h l = let b = f.least s (products_of_power M I s l.vanishes v) in absurd (omega (arith, b, h))
 
   module _ (n most : ℕ) (h : VanishUpTo M I n most) (e : n ≡ Q.vertices) where
-    past : (v s : ℕ) → Q.vertices ≤ v → ProductsVanish k (at_vertex v) s
-    past v s l = (vanish_from_none k (at_vertex v) (X.past v l)).zero s (omega arith)
+    past : (v s : ℕ) → Q.vertices ≤ v → ProductsVanish k (part_at v) s
+    past v s l = (vanish_from_none k (part_at v) (X.past v l)).zero s (omega arith)
 
     vanishes : (s : ℕ) → most ≤ s → PowerVanishes (algebra_of M) I s
     vanishes s l = power_of_products M I s (λ v. elim (cases_lt v n) [ inl b ↦ h.zero v s b l | inr b ↦ past v s (omega (arith, b, e)) ])
@@ -147,3 +147,9 @@ module _ (h : Header) (m : Module) (M : IsModule h.field (algebra_at m.side h).q
 
 pub default_zero : (xs : List ℕ) (i a : ℕ) → i < length xs → a ≡ get_or xs i a → a ≡ get_or xs i 0
 default_zero xs i a h e = e ∙ get_or_default xs i a 0 h
+
+pub equal_decided : (a b : ℕ) → MatchBool (nat_eq a b) (a ≡ b) (a ≢ b)
+equal_decided a b = elim (cases_eq a b) [
+  | inl e ↦ subst (λ (t : Bool). MatchBool t (a ≡ b) (a ≢ b)) (sym (eq-eqb a b e)) e
+  | inr n ↦ subst (λ (t : Bool). MatchBool t (a ≡ b) (a ≢ b)) (sym (ne_eqb a b n)) n
+]

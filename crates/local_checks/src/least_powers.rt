@@ -97,7 +97,8 @@ pub fn is_least_power(
             None => return false,
             Some(p) => most = larger(most, p),
         }
-        from += m.dims[v] as usize * m.dims[v] as usize;
+        let size = m.dims[v] as usize;
+        from += size * size;
     }
     power == larger(most, 1)
 }

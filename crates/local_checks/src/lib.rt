@@ -2,14 +2,18 @@
 //! powers, residue rings. Nothing is allocated, and each call answers on all numbers that have the shapes.
 #![tactic(auto)]
 
+mod clauses;
 mod composing;
 mod ideals;
+mod least_powers;
 mod members;
 mod powers;
 mod rows;
 
+pub use clauses::{is_not_zero, write_ideal};
 pub use composing::compose;
 pub use ideals::{has_product, is_ideal};
+pub use least_powers::is_least_power;
 pub use members::is_member;
 pub use powers::power_at;
 pub use rows::{reduce_rows, write_combinations, write_rows};

@@ -1,0 +1,60 @@
+//! The conditions on a local module that speak of its ideal.
+ghost use Rattle.std.specs.Prelude.{ℕ, ◌≡◌, ◌<◌, ◌≤◌, ◌+◌, ◌*◌, length, slice_index, MatchBool};
+ghost use Rattle.fp_linear.specs.Slices.{AreElements};
+ghost use Rattle.module_types.specs.Algebras.{algebra_at};
+ghost use Rattle.module_types.specs.Shapes.{IsModule};
+ghost use Rattle.claim_conditions.specs.LocalConditions.{families_of, ring_rows, ideal_members, IsNotZero, IsPrintedIdeal, IsPrintedPower};
+ghost use Rattle.local_checks.specs.Families.{IsFamily, family_rows};
+ghost use Rattle.local_checks.specs.Rows.{IsSpaceOf};
+
+use crate::ideals::is_ideal;
+use crate::least_powers::is_least_power;
+use crate::rows::{reduce_rows, write_combinations, write_rows};
+use fp_linear::Matrix;
+use module_checks::is_reduced;
+use module_types::Module;
+use path_algebra::Header;
+
+/// Whether the module is not zero: whether it has rows at some vertex.
+pub fn is_not_zero(header: &Header, m: &Module) -> bool
+    requires m { IsModule header.now.field (algebra_at m.now.side header.now).quiver m.now }
+    ensures { MatchBool result (IsNotZero header.now m.now) (¬ IsNotZero header.now m.now) }
+{
+    let _field = header.field;
+    for v in 0..m.dims.len() {
+        if m.dims[v] != 0 {
+            return true;
+        }
+    }
+    false
+}
+
+/// Writes the rows of the basis to `ring`, and a basis of the span of the members of the ideal to `rows` and `pivots`; answers how many these are.
+pub fn write_ideal(
+    header: &Header,
+    m: &Module,
+    basis: &Matrix,
+    ideal: &Matrix,
+    ring: &mut [u8],
+    rows: &mut [u8],
+    pivots: &mut [u32],
+) -> u32
+    requires field { basis.now.field ≡ header.now.field }
+    requires ideal_field { ideal.now.field ≡ header.now.field }
+    requires unknowns { basis.now.col_count ≡ (families_of header.now m.now).size }
+    requires coordinates { ideal.now.col_count ≡ basis.now.row_count }
+    requires ring_elements { AreElements header.now.field ring.old }
+    requires ring_count { length ring.old ≡ basis.now.row_count * (families_of header.now m.now).size }
+    requires elements { AreElements header.now.field rows.old }
+    requires count { length rows.old ≡ ideal.now.row_count * (families_of header.now m.now).size }
+    requires room { ideal.now.row_count ≤ length pivots.old }
+    ensures ring_elements { AreElements header.now.field ring.new }
+    ensures ring { family_rows header.now m.now basis.now.row_count ring.new ≡ ring_rows header.now m.now basis.now }
+    ensures elements { AreElements header.now.field rows.new }
+    ensures space { IsSpaceOf (ideal_members header.now m.now basis.now ideal.now) rows.new pivots.new result }
+{
+    let cols = basis.cols();
+    write_rows(basis, ring);
+    write_combinations(ideal, cols as usize, ring, rows);
+    reduce_rows(header.field, ideal.rows(), cols, rows, pivots)
+}
