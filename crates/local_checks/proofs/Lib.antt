@@ -6,3 +6,7 @@ pub mod Closures
 pub mod Images
 pub mod VertexPowers
 pub mod PrintedIdeals
+pub mod ResidueForms
+pub mod Units
+pub mod ClosedSpaces
+pub mod Remaining

@@ -5,3 +5,5 @@ pub mod Rows
 pub mod Closures
 pub mod Images
 pub mod Vertices
+pub mod Remainders
+pub mod Units

@@ -58,3 +58,74 @@ pub fn write_ideal(
     write_combinations(ideal, cols as usize, ring, rows);
     reduce_rows(header.field, ideal.rows(), cols, rows, pivots)
 }
+
+/// Whether the rows of the ideal are in reduced row form and the span of its members is closed under products with the rows of the basis. The slices are
+/// worked in: `ring` has as many rows as the basis and `rows` as the ideal, `work` is one row, all of as many numbers as a family has.
+pub fn is_printed_ideal(
+    header: &Header,
+    m: &Module,
+    basis: &Matrix,
+    ideal: &Matrix,
+    ring: &mut [u8],
+    rows: &mut [u8],
+    pivots: &mut [u32],
+    work: &mut [u8],
+) -> bool
+    requires m { IsModule header.now.field (algebra_at m.now.side header.now).quiver m.now }
+    requires field { basis.now.field ≡ header.now.field }
+    requires ideal_field { ideal.now.field ≡ header.now.field }
+    requires unknowns { basis.now.col_count ≡ (families_of header.now m.now).size }
+    requires coordinates { ideal.now.col_count ≡ basis.now.row_count }
+    requires ring_elements { AreElements header.now.field ring.old }
+    requires ring_count { length ring.old ≡ basis.now.row_count * (families_of header.now m.now).size }
+    requires elements { AreElements header.now.field rows.old }
+    requires count { length rows.old ≡ ideal.now.row_count * (families_of header.now m.now).size }
+    requires room { ideal.now.row_count ≤ length pivots.old }
+    requires work { IsFamily header.now m.now work.old }
+    ensures ideal { MatchBool result (IsPrintedIdeal header.now m.now basis.now ideal.now) (¬ IsPrintedIdeal header.now m.now basis.now ideal.now) }
+{
+    let _rows = ideal.rows();
+    if !is_reduced(ideal) {
+        return false;
+    }
+    let rank = write_ideal(header, m, basis, ideal, ring, rows, pivots) as usize;
+    let count = rank * work.len();
+    let ring_count = basis.rows() as usize;
+    is_ideal(header, m, ring, ring_count, &rows[..count], &pivots[..rank], work)
+}
+
+/// Whether each product of `power` members of the ideal is zero, and no smaller number from 1 on has this property. The slices are worked in: `ring`, `rows`
+/// and `work` as for `is_printed_ideal`, and `next` has room for two families.
+pub fn is_printed_power(
+    header: &Header,
+    m: &Module,
+    basis: &Matrix,
+    ideal: &Matrix,
+    power: u32,
+    ring: &mut [u8],
+    rows: &mut [u8],
+    pivots: &mut [u32],
+    work: &mut [u8],
+    next: &mut [u8],
+) -> bool
+    requires m { IsModule header.now.field (algebra_at m.now.side header.now).quiver m.now }
+    requires field { basis.now.field ≡ header.now.field }
+    requires ideal_field { ideal.now.field ≡ header.now.field }
+    requires unknowns { basis.now.col_count ≡ (families_of header.now m.now).size }
+    requires coordinates { ideal.now.col_count ≡ basis.now.row_count }
+    requires ring_elements { AreElements header.now.field ring.old }
+    requires ring_count { length ring.old ≡ basis.now.row_count * (families_of header.now m.now).size }
+    requires elements { AreElements header.now.field rows.old }
+    requires count { length rows.old ≡ ideal.now.row_count * (families_of header.now m.now).size }
+    requires room { ideal.now.row_count ≤ length pivots.old }
+    requires pivots { 512 ≤ length pivots.old }
+    requires work { IsFamily header.now m.now work.old }
+    requires next { AreElements header.now.field next.old }
+    requires next_room { (families_of header.now m.now).size + (families_of header.now m.now).size ≤ length next.old }
+    ensures power { MatchBool result (IsPrintedPower header.now m.now basis.now ideal.now power) (¬ IsPrintedPower header.now m.now basis.now ideal.now power) }
+{
+    let _rows = ideal.rows();
+    let rank = write_ideal(header, m, basis, ideal, ring, rows, pivots) as usize;
+    let count = rank * work.len();
+    is_least_power(header, m, rank, &rows[..count], power, work, next, pivots)
+}

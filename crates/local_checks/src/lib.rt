@@ -9,11 +9,13 @@ mod least_powers;
 mod members;
 mod powers;
 mod rows;
+mod subrings;
 
-pub use clauses::{is_not_zero, write_ideal};
+pub use clauses::{is_not_zero, is_printed_ideal, is_printed_power, write_ideal};
 pub use composing::compose;
 pub use ideals::{has_product, is_ideal};
 pub use least_powers::is_least_power;
 pub use members::is_member;
 pub use powers::power_at;
 pub use rows::{reduce_rows, write_combinations, write_rows};
+pub use subrings::{commutes_modulo, is_subalgebra, write_unit};

@@ -1,10 +1,11 @@
 //! From which power on a space of families is zero: the images of all rows at each vertex, taken again and again.
-ghost use Rattle.std.specs.Prelude.{ℕ, ◌≡◌, ◌<◌, ◌≤◌, ◌+◌, ◌*◌, length, drop, MatchOption, MatchBool};
+ghost use Rattle.std.specs.Prelude.{ℕ, ◌≡◌, ◌<◌, ◌≤◌, ◌+◌, ◌*◌, length, slice_index, drop, MatchOption, MatchBool};
 ghost use Rattle.linear_algebra.specs.Matrix.{one, delta, ◌·◌};
 ghost use Rattle.linear_algebra.specs.Rank.{HasRightInverse};
 ghost use Rattle.fp_linear.specs.Slices.{AreElements};
 ghost use Rattle.local_modules.specs.ImageChain.{IsImageOf, VanishFrom};
 ghost use Rattle.local_checks.specs.Standing.{standing};
+ghost use Rattle.local_checks.specs.Units.{unit_entry};
 ghost use Rattle.local_checks.specs.Images.{blocks_at, IsSumOfSpans, NeverVanish};
 
 use crate::rows::reduce_rows;
@@ -116,11 +117,12 @@ fn identity_entry(i: usize, j: usize) -> u8
 }
 
 /// Writes the identity matrix.
-fn write_identity(field: Field, size: usize, rows: &mut [u8])
+pub(crate) fn write_identity(field: Field, size: usize, rows: &mut [u8])
     requires elements { AreElements field rows.old }
     requires shape { length rows.old ≡ size * size }
     ensures elements { AreElements field rows.new }
     ensures identity { standing field size size rows.new ≡ one field size }
+    ensures entries { (k : ℕ) → k < size * size → slice_index rows.new k ≡ unit_entry size k }
 {
     for e in 0..size * size {
         rows[e] = identity_entry(e / size, e % size);

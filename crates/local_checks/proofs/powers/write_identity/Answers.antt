@@ -13,3 +13,6 @@ loop-e-preserved c = record {
 
 pub returns-clause-identity : goal.returns-clause-identity
 returns-clause-identity c = standing_identity c.args.field c.args.size c.loop-e.rows c.loop-e.invariant.elements (λ k l. c.loop-e.invariant.identity k (omega (arith, l, c.loop-e-test.false)))
+
+pub returns-clause-entries : goal.returns-clause-entries
+returns-clause-entries c = λ k l. c.loop-e.invariant.identity k (omega (arith, l, c.loop-e-test.false))
