@@ -10,3 +10,4 @@ pub mod ResidueForms
 pub mod Units
 pub mod ClosedSpaces
 pub mod Remaining
+pub mod FrobeniusSpaces

@@ -9,21 +9,23 @@ use Rattle.linear_algebra.specs.Rows.{IsGrid, rows_of}
 use Rattle.linear_algebra.specs.Reduced.{IsReduced, pivot}
 use Rattle.linear_algebra.specs.Typed.{as_mat}
 use Rattle.linear_algebra.proofs.RowFormUnique.{row_reduced-as_mat, grid_of-reduced}
-use Rattle.linear_algebra.proofs.Solving.{in_span_self}
+use Rattle.linear_algebra.proofs.Solving.{in_span_self, in_span_trans, in_span_mul}
 use Rattle.linear_algebra.proofs.Typed.{grid_of-as_mat}
 use Rattle.fp_linear.specs.Matrix.{PlainMatrix, IsMatrix}
 use Rattle.path_algebra.specs.declared.Header.{Header}
 use Rattle.representations.specs.HomSpace.{unknowns}
 use Rattle.local_modules.specs.Ideal.{IsLeastPower}
 use Rattle.local_modules.specs.Subalgebra.{IsIdealOf}
-use Rattle.local_modules.proofs.Subalgebras.{ideal_of_same}
+use Rattle.local_modules.proofs.Subalgebras.{ideal_of_same, subalgebra_same, frobenius_of_same}
 use Rattle.local_modules.proofs.SameIdeals.{least_same}
 use Rattle.module_types.specs.declared.Module.{Module}
 use Rattle.module_types.specs.Algebras.{algebra_at}
 use Rattle.module_types.specs.Readings.{read}
 use Rattle.module_types.specs.Shapes.{IsModule}
 use Rattle.module_checks.proofs.HomRank.{dim_at-is}
-use Rattle.claim_conditions.specs.LocalConditions.{families_of, ring_rows, ideal_rows, ideal_members, IsNotZero, IsPrintedIdeal, IsPrintedPower}
+use Rattle.claim_conditions.specs.LocalConditions.{families_of, ring_rows, ideal_rows, ideal_members, IsNotZero, IsPrintedIdeal, IsPrintedPower, IsPrintedResidue}
+use Rattle.claim_conditions.specs.declared.Residue.TheVariants.{Frobenius}
+use Rattle.local_checks.specs.Remainders.{IsFrobeniusSpace}
 use Rattle.local_checks.specs.Standing.{standing}
 use Rattle.local_checks.specs.Rows.{IsSpaceOf}
 use Rattle.local_checks.specs.Families.{family_space, family_rows}
@@ -73,3 +75,23 @@ module _ (h : Header) (m : Module) (basis ideal : PlainMatrix) (M : IsMatrix ide
     pub printed_power_decided : (b : Bool) (s : ℕ) → MatchBool b (IsLeastPower (families_of h m) J s) (¬ IsLeastPower (families_of h m) J s) → MatchBool b (IsPrintedPower h m basis ideal s) (¬ IsPrintedPower h m basis ideal s)
     printed_power_decided true s d = least_same (families_of h m) J (ideal_members h m basis ideal) forth back s d
     printed_power_decided false s d = λ i. d (least_same (families_of h m) (ideal_members h m basis ideal) J back forth s i)
+
+-- `residue`, where it is a field that q-th powers recognise: only the spans count.
+module _ (h : Header) (m : Module) (basis ideal : PlainMatrix) {n k : ℕ} (f : Mat h.field n (families_of h m).size) (J : Mat h.field k (families_of h m).size)
+    (ring_forth : IsInSpan f (ring_rows h m basis)) (ring_back : IsInSpan (ring_rows h m basis) f) (forth : IsInSpan J (ideal_members h m basis ideal)) (back : IsInSpan (ideal_members h m basis ideal) J) where
+  pub ideal_inside : IsInSpan f J
+  ideal_inside = in_span_trans f (ideal_members h m basis ideal) J (in_span_trans f (ring_rows h m basis) (ideal_members h m basis ideal) ring_forth (in_span_mul (ring_rows h m basis) (ideal_rows h basis ideal))) back
+
+  pub ideal_closed : IsPrintedIdeal h m basis ideal → IsIdealOf (families_of h m) f J
+  ideal_closed i = ideal_of_same (families_of h m) f (ring_rows h m basis) J (ideal_members h m basis ideal) ring_forth ring_back forth back i.closed
+
+  pub printed_frobenius_decided : (b : Bool) → MatchBool b (IsFrobeniusSpace (families_of h m) f J) (¬ IsFrobeniusSpace (families_of h m) f J)
+      → MatchBool b (IsPrintedResidue h m basis ideal Frobenius) (¬ IsPrintedResidue h m basis ideal Frobenius)
+  printed_frobenius_decided true d = record {
+    ring = subalgebra_same (families_of h m) (ring_rows h m basis) f ring_back ring_forth d.subalgebra;
+    form = frobenius_of_same (families_of h m) (ring_rows h m basis) f (ideal_members h m basis ideal) J ring_back ring_forth back forth d.frobenius;
+  }
+  printed_frobenius_decided false d = λ r. d (record {
+    subalgebra = subalgebra_same (families_of h m) f (ring_rows h m basis) ring_forth ring_back r.ring;
+    frobenius = frobenius_of_same (families_of h m) f (ring_rows h m basis) J (ideal_members h m basis ideal) ring_forth ring_back forth back r.form;
+  })

@@ -64,32 +64,26 @@ pub remainders_step : (h : Header) (m : Module) (rows pivots : List ℕ) (n : �
     → AreRemaindersUpTo h m rows pivots ring factor (family_rows h m n (take (i * c) old ++ (w ++ drop (i * c + c - i * c) (drop (i * c) old)))) (i + 1) × AreElements h.field (take (i * c) old ++ (w ++ drop (i * c + c - i * c) (drop (i * c) old)))
 remainders_step h m rows pivots n ring factor old w i c e l o a f before here = rw e (
   (λ j b. elim (cases_eq j i) [
-    | inl d ↦ subst (λ (j : ℕ). IsRemainderOf h m rows pivots (power_in (families_of h m) (row j ring) (order h.field) ⊞ factor ⊙ row j ring) (row j (family_rows h m n new))) (sym d)
+    | inl d ↦ subst (λ (j : ℕ). IsRemainderOf h m rows pivots (power_in (families_of h m) (row j ring) (order h.field) ⊞ factor ⊙ row j ring) (row j (family_rows h m n (take (i * (families_of h m).size) old ++ (w ++ drop (i * (families_of h m).size + (families_of h m).size - i * (families_of h m).size) (drop (i * (families_of h m).size) old)))))) (sym d)
         (subst (IsRemainderOf h m rows pivots (power_in (families_of h m) (row i ring) (order h.field) ⊞ factor ⊙ row i ring)) (sym this_row) here)
     | inr d ↦ subst (IsRemainderOf h m rows pivots (power_in (families_of h m) (row j ring) (order h.field) ⊞ factor ⊙ row j ring)) (sym (other_row j (omega (arith, b, d)))) (before j (omega (arith, b, d)))
   ]),
   new_elements,
 )
   where
-    abbrev K : ℕ
-    K = i * (families_of h m).size + (families_of h m).size - i * (families_of h m).size
-
-    abbrev new : List ℕ
-    new = take (i * (families_of h m).size) old ++ (w ++ drop K (drop (i * (families_of h m).size) old))
-
     room : i * (families_of h m).size + (families_of h m).size ≤ length old
     room = row_room n (families_of h m).size i old o l
 
-    new_elements : AreElements h.field new
-    new_elements = part_elements old w (i * (families_of h m).size) K (families_of h m).size f.count (omega arith) room h.field a f.elements
+    new_elements : AreElements h.field (take (i * (families_of h m).size) old ++ (w ++ drop (i * (families_of h m).size + (families_of h m).size - i * (families_of h m).size) (drop (i * (families_of h m).size) old)))
+    new_elements = part_elements old w (i * (families_of h m).size) (i * (families_of h m).size + (families_of h m).size - i * (families_of h m).size) (families_of h m).size f.count (omega arith) room h.field a f.elements
 
-    this_row : row i (family_rows h m n new) ≡ family h m w
-    this_row = Row-eq _ _ (λ t b. row-at i (family_rows h m n new) t ∙ standing-at h.field n (families_of h m).size new new_elements i t l b
-        ∙ part_within old w (i * (families_of h m).size) K (families_of h m).size f.count (omega arith) room t b ∙ sym (as_row_is h.field (families_of h m).size w f.elements f.count t))
+    this_row : row i (family_rows h m n (take (i * (families_of h m).size) old ++ (w ++ drop (i * (families_of h m).size + (families_of h m).size - i * (families_of h m).size) (drop (i * (families_of h m).size) old)))) ≡ family h m w
+    this_row = Row-eq _ _ (λ t b. row-at i (family_rows h m n (take (i * (families_of h m).size) old ++ (w ++ drop (i * (families_of h m).size + (families_of h m).size - i * (families_of h m).size) (drop (i * (families_of h m).size) old)))) t ∙ standing-at h.field n (families_of h m).size (take (i * (families_of h m).size) old ++ (w ++ drop (i * (families_of h m).size + (families_of h m).size - i * (families_of h m).size) (drop (i * (families_of h m).size) old))) new_elements i t l b
+        ∙ part_within old w (i * (families_of h m).size) (i * (families_of h m).size + (families_of h m).size - i * (families_of h m).size) (families_of h m).size f.count (omega arith) room t b ∙ sym (as_row_is h.field (families_of h m).size w f.elements f.count t))
 
-    other_row : (j : ℕ) → j < i → row j (family_rows h m n new) ≡ row j (family_rows h m n old)
-    other_row j b = Row-eq _ _ (λ t d. row-at j (family_rows h m n new) t ∙ standing-at h.field n (families_of h m).size new new_elements j t (omega (arith, b, l)) d
-        ∙ part_before old w (i * (families_of h m).size) K (families_of h m).size f.count (omega arith) room (j * (families_of h m).size + t) (place_below j (families_of h m).size t i b d)
+    other_row : (j : ℕ) → j < i → row j (family_rows h m n (take (i * (families_of h m).size) old ++ (w ++ drop (i * (families_of h m).size + (families_of h m).size - i * (families_of h m).size) (drop (i * (families_of h m).size) old)))) ≡ row j (family_rows h m n old)
+    other_row j b = Row-eq _ _ (λ t d. row-at j (family_rows h m n (take (i * (families_of h m).size) old ++ (w ++ drop (i * (families_of h m).size + (families_of h m).size - i * (families_of h m).size) (drop (i * (families_of h m).size) old)))) t ∙ standing-at h.field n (families_of h m).size (take (i * (families_of h m).size) old ++ (w ++ drop (i * (families_of h m).size + (families_of h m).size - i * (families_of h m).size) (drop (i * (families_of h m).size) old))) new_elements j t (omega (arith, b, l)) d
+        ∙ part_before old w (i * (families_of h m).size) (i * (families_of h m).size + (families_of h m).size - i * (families_of h m).size) (families_of h m).size f.count (omega arith) room (j * (families_of h m).size + t) (place_below j (families_of h m).size t i b d)
         ∙ sym (row-at j (family_rows h m n old) t ∙ standing-at h.field n (families_of h m).size old a j t (omega (arith, b, l)) d))
 
 pub remainders_done : (h : Header) (m : Module) (rows pivots : List ℕ) (n : ℕ) (ring : Mat h.field n (families_of h m).size) (factor : ℕ) (rest last ps : List ℕ) (i r c : ℕ) → i ≡ n → c ≡ (families_of h m).size

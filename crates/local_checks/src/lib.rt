@@ -8,6 +8,7 @@ mod ideals;
 mod least_powers;
 mod members;
 mod powers;
+mod residues;
 mod rows;
 mod subrings;
 
@@ -17,5 +18,6 @@ pub use ideals::{has_product, is_ideal};
 pub use least_powers::is_least_power;
 pub use members::is_member;
 pub use powers::power_at;
+pub use residues::{has_frobenius_residue, write_power};
 pub use rows::{reduce_rows, write_combinations, write_rows};
 pub use subrings::{commutes_modulo, is_subalgebra, write_unit};
