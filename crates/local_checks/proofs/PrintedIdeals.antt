@@ -1,6 +1,7 @@
 -- The conditions on a local module, by the spaces that its numbers span.
-use Rattle.std.proofs.Common.{ℕ, ◌<◌, ◌≤◌, ◌≡◌, ◌≢◌, ◌*◌, List, get_or, length, take, sym, ap, ◌∙◌, inl, inr, arith, subst}
+use Rattle.std.proofs.Common.{ℕ, ◌<◌, ◌≤◌, ◌≡◌, ◌≢◌, ◌*◌, List, get_or, length, take, sym, ap, ◌∙◌, inl, inr, arith, subst, mul-le-mul_right}
 use Rattle.std.proofs.lemmas.Bool.{cases_lt}
+use Rattle.std.proofs.lemmas.List.{length-take-le}
 use Rattle.std.specs.Prelude.{Bool, true, false, MatchBool}
 use Rattle.linear_algebra.specs.Field.{Gf}
 use Rattle.linear_algebra.specs.Matrix.{Mat, ◌·◌}
@@ -95,3 +96,7 @@ module _ (h : Header) (m : Module) (basis ideal : PlainMatrix) {n k : ℕ} (f : 
     subalgebra = subalgebra_same (families_of h m) f (ring_rows h m basis) ring_forth ring_back r.ring;
     frobenius = frobenius_of_same (families_of h m) f (ring_rows h m basis) J (ideal_members h m basis ideal) ring_forth ring_back forth back r.form;
   })
+
+pub rest_shape : (r n N w : ℕ) (rest pivots : List ℕ) → r ≤ n → w ≡ N → length rest ≡ n * N → length (take r pivots) ≡ r → length (take (r * w) rest) ≡ length (take r pivots) * N
+rest_shape r n N w rest pivots l e c p =
+    rw e (length-take-le (r * N) rest (let k = mul-le-mul_right N l in omega (arith, k, c)) ∙ ap (λ (k : ℕ). k * N) (sym p))
