@@ -3,7 +3,7 @@ use Rattle.std.proofs.Common.{ℕ, ◌<◌, ◌≡◌, ◌+◌, List, get_or, le
 use Rattle.std.proofs.lemmas.Bool.{cases_eq}
 use Rattle.std.specs.Prelude.{Bool, true, false, MatchBool}
 use Rattle.linear_algebra.specs.Field.{Gf, add, mul, neg}
-use Rattle.linear_algebra.specs.Matrix.{Mat, Row, negative, ◌⊞◌, ◌⊟◌, ◌⊙◌}
+use Rattle.linear_algebra.specs.Matrix.{Mat, negative, ◌⊞◌, ◌⊟◌, ◌⊙◌}
 use Rattle.linear_algebra.proofs.MatrixLaws.{difference, neg_scale, one_scale}
 use Rattle.linear_algebra.specs.Parts.{row}
 use Rattle.linear_algebra.specs.Rank.{IsInSpan}
@@ -11,7 +11,7 @@ use Rattle.linear_algebra.specs.Typed.{as_row}
 use Rattle.linear_algebra.proofs.PartsLaws.{Row-eq}
 use Rattle.linear_algebra.proofs.Solving.{row_in_span, in_span_self}
 use Rattle.fp_linear.specs.Slices.{AreElements, plus_multiple}
-use Rattle.fp_linear.proofs.Slices.{length-plus, plus-at, AreElements-plus}
+use Rattle.fp_linear.proofs.Slices.{length-plus, plus-at}
 use Rattle.path_algebra.specs.declared.Header.{Header}
 use Rattle.module_types.specs.declared.Module.{Module}
 use Rattle.claim_conditions.specs.LocalConditions.{families_of}
@@ -66,7 +66,7 @@ pub commute_decided : (h : Header) (m : Module) (rows pivots : List ℕ) (x y : 
     → MatchBool b (IsCongruent (family_space h m rows pivots) x y) (¬ IsCongruent (family_space h m rows pivots) x y)
 commute_decided h m rows pivots x y s t new factor fs ft a ex ey ef en b d =
     let is : family h m new ≡ x ⊟ y = added_row h.field (families_of h m).size factor s t new fs.elements ft.elements a fs.count ft.count en
-        ∙ ap₂ (λ (u v : Element (families_of h m)). u ⊞ factor ⊙ v) ex ey ∙ ap (λ (z : ℕ). x ⊞ z ⊙ y) ef ∙ less_multiple x y in
+    ∙ ap₂ (λ (u v : Element (families_of h m)). u ⊞ factor ⊙ v) ex ey ∙ ap (λ (z : ℕ). x ⊞ z ⊙ y) ef ∙ less_multiple x y in
     subst (λ (z : Element (families_of h m)). MatchBool b (IsInSpan (family_space h m rows pivots) z) (¬ IsInSpan (family_space h m rows pivots) z)) is
     (subst (λ (n : ℕ). MatchBool b (IsInSpan (space h.field n rows pivots) (as_row h.field n new)) (¬ IsInSpan (space h.field n rows pivots) (as_row h.field n new))) (ap length en ∙ length-plus h.field factor s t ∙ ft.count) d)
   where

@@ -1,9 +1,9 @@
 -- Spaces of families that are closed under products with others.
-use Rattle.std.proofs.Common.{ℕ, ◌<◌, ◌≤◌, ◌≡◌, ◌+◌, ◌-◌, ◌*◌, List, get_or, length, take, drop, sym, ap, ◌∙◌, inl, inr, arith, subst}
+use Rattle.std.proofs.Common.{ℕ, ◌<◌, ◌≤◌, ◌≡◌, ◌+◌, ◌-◌, ◌*◌, List, length, take, drop, sym, ◌∙◌, inl, inr, arith, subst}
 use Rattle.std.proofs.lemmas.Bool.{cases_eq}
 use Rattle.std.specs.Prelude.{Bool, true, false, MatchBool}
 use Rattle.linear_algebra.specs.Field.{Gf}
-use Rattle.linear_algebra.specs.Matrix.{Mat, Row}
+use Rattle.linear_algebra.specs.Matrix.{Mat}
 use Rattle.linear_algebra.specs.Parts.{row}
 use Rattle.linear_algebra.specs.Rank.{IsInSpan}
 use Rattle.linear_algebra.specs.Typed.{as_row}
@@ -17,7 +17,7 @@ use Rattle.local_modules.specs.Subalgebra.{IsIdealOf}
 use Rattle.local_modules.proofs.Subalgebras.{ideal_by_rows}
 use Rattle.claim_conditions.specs.LocalConditions.{families_of}
 use Rattle.local_checks.specs.Standing.{standing}
-use Rattle.local_checks.specs.Families.{IsFamily, family, family_rows}
+use Rattle.local_checks.specs.Families.{IsFamily}
 use Rattle.local_checks.specs.Closures.{IsClosedAt, IsClosedUnder}
 use Rattle.local_checks.proofs.Places.{lent, lent_length, lent_elements, row_room}
 use Rattle.local_checks.proofs.Spaces.{standing-at, as_row_is}

@@ -1,5 +1,5 @@
 -- Blocks that are products, vertex by vertex, are the product of the families.
-use Rattle.std.proofs.Common.{ℕ, ◌<◌, ◌≤◌, ◌≡◌, ◌+◌, ◌*◌, ◌/◌, ◌%◌, ◌-◌, List, ◌++◌, get_or, take, drop, length, refl, sym, ap, ap₂, ◌∙◌, inl, inr, arith, subst, add-one, mul-le-mul_right}
+use Rattle.std.proofs.Common.{ℕ, ◌<◌, ◌≤◌, ◌≡◌, ◌+◌, ◌*◌, List, ◌++◌, get_or, take, drop, length, refl, sym, ap, ap₂, ◌∙◌, inl, inr, arith, subst, add-one, mul-le-mul_right}
 use Rattle.std.proofs.lemmas.Bool.{cases_lt}
 use Rattle.std.proofs.lemmas.Nat.{mul-add-lt, div-mul-add, mod-mul-add}
 use Rattle.std.proofs.lemmas.List.{get_or_default}

@@ -1,5 +1,5 @@
 -- The form of a residue ring, decided by the ranks of what is left of rows.
-use Rattle.std.proofs.Common.{ℕ, ◌<◌, ◌≡◌, ◌+◌, List, length, sym, ap, ap₂, ◌∙◌, subst}
+use Rattle.std.proofs.Common.{ℕ, ◌≡◌, ◌+◌, List, length, sym, ap, ◌∙◌, subst}
 use Rattle.std.specs.Prelude.{Bool, true, false, MatchBool}
 use Rattle.linear_algebra.specs.Field.{order, neg}
 use Rattle.linear_algebra.specs.Matrix.{Mat, ◌⊞◌, ◌⊟◌, ◌⊙◌}
@@ -12,7 +12,7 @@ use Rattle.local_modules.specs.Subalgebra.{IsSubalgebra, IsIdealOf, CommutesModu
 use Rattle.module_types.specs.declared.Module.{Module}
 use Rattle.claim_conditions.specs.LocalConditions.{families_of}
 use Rattle.local_checks.specs.Families.{IsFamilySpace, family_space}
-use Rattle.local_checks.specs.Remainders.{IsRemainderOf, HasRemaindersOfRank, IsFrobeniusSpace}
+use Rattle.local_checks.specs.Remainders.{HasRemaindersOfRank, IsFrobeniusSpace}
 use Rattle.local_checks.proofs.Spaces.{place, space_reduced, space_independent}
 use Rattle.local_checks.proofs.ResidueForms.{remainder_by_rows, powers, are_powers, no_factor, less_factor, less_row, frobenius_of_ranks, ranks_of_frobenius}
 

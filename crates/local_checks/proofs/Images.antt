@@ -2,17 +2,16 @@
 use Rattle.std.proofs.Common.{ℕ, ◌<◌, ◌≤◌, ◌≡◌, ◌≢◌, ◌+◌, ◌-◌, ◌*◌, ◌/◌, ◌%◌, List, ◌++◌, get_or, set, length, take, drop, get_or-set_same, get_or-set_other, refl, sym, ap, ap₂, ◌∙◌, inl, inr, arith, subst, mul-le-mul_right, add-mul}
 use Rattle.std.proofs.lemmas.Bool.{cases_lt, cases_eq}
 use Rattle.std.proofs.lemmas.Nat.{div-mul-add, mod-mul-add}
-use Rattle.std.proofs.lemmas.List.{get_or-take, get_or-drop, get_or_append_left, get_or-append_right, length-take-le}
+use Rattle.std.proofs.lemmas.List.{get_or-take, get_or_append_left, get_or-append_right, length-take-le}
 use Rattle.linear_algebra.specs.Field.{Gf, order}
 use Rattle.linear_algebra.specs.FieldLaws.{order-pos, one-lt-order}
-use Rattle.linear_algebra.specs.Matrix.{Mat, Mat-eq_below, delta, delta-same, delta-other, one, zeros, ◌·◌}
+use Rattle.linear_algebra.specs.Matrix.{Mat, Mat-eq_below, delta, delta-same, delta-other, one, ◌·◌}
 use Rattle.linear_algebra.specs.Rank.{IsInSpan, HasRightInverse}
-use Rattle.linear_algebra.specs.RowForm.{IsRowReduced}
 use Rattle.linear_algebra.specs.Parts.{row}
-use Rattle.linear_algebra.specs.Rows.{rows_of, times}
-use Rattle.linear_algebra.specs.Typed.{as_mat, as_row}
+use Rattle.linear_algebra.specs.Rows.{rows_of}
+use Rattle.linear_algebra.specs.Typed.{as_mat}
 use Rattle.linear_algebra.proofs.MatrixLaws.{one-at}
-use Rattle.linear_algebra.proofs.PartsLaws.{Row-eq, row-at, rows_equal, row-mul}
+use Rattle.linear_algebra.proofs.PartsLaws.{Row-eq, row-at}
 use Rattle.linear_algebra.proofs.RowForm.{reduced_independent}
 use Rattle.linear_algebra.proofs.Rows.{rows_same, length-rows_of, row-rows_of, length-list_of, entry-rows_of}
 use Rattle.linear_algebra.proofs.Solving.{in_span_trans, in_span_by_rows, row_in_span, in_span_self}
@@ -20,7 +19,7 @@ use Rattle.linear_algebra.proofs.Steinitz.{steinitz}
 use Rattle.fp_linear.specs.Slices.{AreElements}
 use Rattle.fp_linear.proofs.LentRows.{AreElements-take, AreElements-drop}
 use Rattle.local_modules.specs.ImageChain.{IsImageOf}
-use Rattle.local_checks.specs.Standing.{standing, space}
+use Rattle.local_checks.specs.Standing.{standing}
 use Rattle.local_checks.specs.Rows.{IsSpaceOf}
 use Rattle.local_checks.specs.Images.{IsSumOfSpans}
 use Rattle.local_checks.proofs.Spaces.{standing-at, space_independent}

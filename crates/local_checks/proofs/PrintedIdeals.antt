@@ -14,7 +14,6 @@ use Rattle.linear_algebra.proofs.Solving.{in_span_self, in_span_trans, in_span_m
 use Rattle.linear_algebra.proofs.Typed.{grid_of-as_mat}
 use Rattle.fp_linear.specs.Matrix.{PlainMatrix, IsMatrix}
 use Rattle.path_algebra.specs.declared.Header.{Header}
-use Rattle.representations.specs.HomSpace.{unknowns}
 use Rattle.local_modules.specs.Ideal.{IsLeastPower}
 use Rattle.local_modules.specs.Subalgebra.{IsIdealOf}
 use Rattle.local_modules.proofs.Subalgebras.{ideal_of_same, subalgebra_same, frobenius_of_same}
@@ -28,8 +27,7 @@ use Rattle.claim_conditions.specs.LocalConditions.{families_of, ring_rows, ideal
 use Rattle.claim_conditions.specs.declared.Residue.TheVariants.{Frobenius}
 use Rattle.local_checks.specs.Remainders.{IsFrobeniusSpace}
 use Rattle.local_checks.specs.Standing.{standing}
-use Rattle.local_checks.specs.Rows.{IsSpaceOf}
-use Rattle.local_checks.specs.Families.{family_space, family_rows}
+use Rattle.local_checks.specs.Families.{family_rows}
 
 -- `nonzero`
 module _ (h : Header) (m : Module) (M : IsModule h.field (algebra_at m.side h).quiver m) where

@@ -1,11 +1,10 @@
 -- What is left of families modulo a space: from lent memory to the conditions.
-use Rattle.std.proofs.Common.{ℕ, ◌<◌, ◌≤◌, ◌≡◌, ◌+◌, ◌-◌, ◌*◌, List, ◌++◌, get_or, length, take, drop, sym, ap, ap₂, ◌∙◌, inl, inr, arith, subst}
+use Rattle.std.proofs.Common.{ℕ, ◌<◌, ◌≤◌, ◌≡◌, ◌+◌, ◌-◌, ◌*◌, List, ◌++◌, length, take, drop, sym, ap, ap₂, ◌∙◌, inl, inr, arith, subst}
 use Rattle.std.proofs.lemmas.Bool.{cases_eq}
 use Rattle.linear_algebra.specs.Field.{Gf, order}
 use Rattle.linear_algebra.specs.Parts.{row}
 use Rattle.linear_algebra.proofs.PartsLaws.{Row-eq, row-at}
-use Rattle.linear_algebra.specs.Matrix.{Mat, Row, ◌⊞◌, ◌⊟◌, ◌⊙◌, ◌·◌}
-use Rattle.linear_algebra.specs.Rank.{IsInSpan}
+use Rattle.linear_algebra.specs.Matrix.{Mat, ◌⊞◌, ◌⊟◌, ◌⊙◌}
 use Rattle.linear_algebra.specs.Ranks.{rank}
 use Rattle.linear_algebra.specs.Reduced.{remainder}
 use Rattle.linear_algebra.specs.Rows.{rows_of}
@@ -16,12 +15,12 @@ use Rattle.path_algebra.specs.declared.Header.{Header}
 use Rattle.local_modules.specs.Algebra.{Element, power_in}
 use Rattle.module_types.specs.declared.Module.{Module}
 use Rattle.claim_conditions.specs.LocalConditions.{families_of}
-use Rattle.local_checks.specs.Standing.{standing, space}
+use Rattle.local_checks.specs.Standing.{standing}
 use Rattle.local_checks.specs.Rows.{IsSpaceOf}
-use Rattle.local_checks.specs.Families.{IsFamily, IsFamilySpace, family, family_space, family_rows}
+use Rattle.local_checks.specs.Families.{IsFamily, IsFamilySpace, family, family_rows}
 use Rattle.local_checks.specs.Remainders.{IsRemainderOf, AreRemaindersUpTo, HasRemaindersOfRank}
 use Rattle.local_checks.proofs.Places.{place_below, row_room, part_before, part_within, part_elements}
-use Rattle.local_checks.proofs.Spaces.{standing-at, as_row_is, coefficients, remainder_is, remainder_clear, remainder_length, remainder_row}
+use Rattle.local_checks.proofs.Spaces.{standing-at, as_row_is, coefficients, remainder_is, remainder_clear}
 use Rattle.fp_linear.specs.Slices.{AreElements, plus_multiple}
 use Rattle.fp_linear.proofs.Slices.{length-plus}
 use Rattle.local_checks.proofs.ClosedSpaces.{added_row}

@@ -1,16 +1,15 @@
 -- The form of a residue ring, by the ranks of what is left of rows modulo an ideal.
 use Rattle.std.proofs.Common.{ℕ, ◌<◌, ◌≡◌, ◌+◌, inl, inr, sym, ap, ap₂, ◌∙◌, arith, subst}
 use Rattle.std.proofs.lemmas.Bool.{cases_lt}
-use Rattle.std.specs.Prelude.{Bool, true, false, MatchBool}
 use Rattle.linear_algebra.specs.Field.{Gf, order, neg, sub}
-use Rattle.linear_algebra.specs.Matrix.{Mat, Row, zeros, negative, ◌⊞◌, ◌⊟◌, ◌⊙◌, ◌·◌}
+use Rattle.linear_algebra.specs.Matrix.{Mat, negative, ◌⊞◌, ◌⊟◌, ◌⊙◌, ◌·◌}
 use Rattle.linear_algebra.specs.Parts.{row}
 use Rattle.linear_algebra.specs.Rank.{IsInSpan, HasRightInverse}
 use Rattle.linear_algebra.specs.RowForm.{IsRowReduced}
 use Rattle.linear_algebra.specs.Ranks.{rank}
-use Rattle.linear_algebra.proofs.MatrixLaws.{difference, sub-at, negative_mul, negative_sum, negative_negative, add_zeros, zero_scale, one_scale, neg_scale, add_assoc_mat, negative_add, zeros_add, add_negative, add_comm_mat}
-use Rattle.linear_algebra.proofs.PartsLaws.{rows_equal, row-at, Row-eq}
-use Rattle.linear_algebra.proofs.Solving.{in_span_by_rows, in_span_self, in_span_mul}
+use Rattle.linear_algebra.proofs.MatrixLaws.{difference, sub-at, negative_mul, negative_sum, negative_negative, add_zeros, zero_scale, one_scale, neg_scale, add_assoc_mat, zeros_add, add_negative}
+use Rattle.linear_algebra.proofs.PartsLaws.{row-at, Row-eq}
+use Rattle.linear_algebra.proofs.Solving.{in_span_by_rows, in_span_self}
 use Rattle.projectives.specs.Projective.{of_rows}
 use Rattle.projectives.specs.Yoneda.{row-of_rows}
 use Rattle.local_modules.specs.Algebra.{Algebra, Element, power_in}

@@ -1,9 +1,9 @@
 -- Rows that are written one behind the other, and the space that elimination leaves.
-use Rattle.std.proofs.Common.{ℕ, ◌<◌, ◌≤◌, ◌≡◌, ◌+◌, ◌*◌, ◌/◌, ◌%◌, List, [], ◌++◌, get_or, length, take, drop, refl, sym, ap, ap₂, ◌∙◌, arith, subst, mul-le-mul_right}
+use Rattle.std.proofs.Common.{ℕ, ◌<◌, ◌≤◌, ◌≡◌, ◌+◌, ◌*◌, List, [], ◌++◌, get_or, length, take, drop, sym, ap, ap₂, ◌∙◌, arith, subst, mul-le-mul_right}
 use Rattle.std.proofs.lemmas.Nat.{div-mul-add, mod-mul-add}
 use Rattle.std.proofs.lemmas.List.{get_or-take, length-take-le}
 use Rattle.linear_algebra.specs.Field.{Gf, order}
-use Rattle.linear_algebra.specs.Matrix.{Mat, ◌·◌}
+use Rattle.linear_algebra.specs.Matrix.{◌·◌}
 use Rattle.linear_algebra.specs.Rank.{IsInSpan}
 use Rattle.linear_algebra.specs.Rows.{entry, rows_of, times, product, IsGrid}
 use Rattle.linear_algebra.specs.Reduced.{IsReduced, pivots_of, ReducesTo}
@@ -14,7 +14,7 @@ use Rattle.linear_algebra.proofs.Typed.{same_span_forth, same_span_back, IsGrid-
 use Rattle.fp_linear.specs.Matrix.{PlainMatrix, IsMatrix}
 use Rattle.fp_linear.specs.Slices.{AreElements, IsWritten}
 use Rattle.fp_linear.proofs.Cells.{IsGrid-rows_of}
-use Rattle.local_checks.specs.Standing.{standing, IsSpace, space}
+use Rattle.local_checks.specs.Standing.{standing}
 use Rattle.local_checks.specs.Rows.{row_entry, IsSpaceOf}
 use Rattle.local_checks.proofs.Places.{place_below, lent_length, lent_elements, part_elements, IsWritten-part, row_room, next_row}
 

@@ -1,18 +1,17 @@
 -- Spaces of rows: remainders, and members.
-use Rattle.std.proofs.Common.{ℕ, ◌<◌, ◌≡◌, ◌+◌, ◌*◌, List, length, get_or, sym, ap, ap₂, ◌∙◌, refl, arith, subst}
+use Rattle.std.proofs.Common.{ℕ, ◌<◌, ◌≡◌, ◌+◌, ◌*◌, List, length, get_or, sym, ap, ap₂, ◌∙◌, arith, subst}
 use Rattle.std.specs.Prelude.{Bool, true, false, MatchBool}
 use Rattle.linear_algebra.specs.Field.{Gf, sub, order}
-use Rattle.linear_algebra.specs.Matrix.{Mat, Row, zeros, ◌⊞◌, ◌⊟◌, negative, ◌·◌}
+use Rattle.linear_algebra.specs.Matrix.{Row, zeros, ◌⊟◌, ◌·◌}
 use Rattle.linear_algebra.specs.Rows.{IsRow, IsGrid, rows_of, times}
 use Rattle.linear_algebra.specs.Reduced.{pivot, at_pivots, remainder}
 use Rattle.linear_algebra.specs.Rank.{IsInSpan, HasRightInverse}
 use Rattle.linear_algebra.specs.RowForm.{IsRowReduced}
-use Rattle.linear_algebra.specs.Typed.{as_row, as_mat}
-use Rattle.linear_algebra.proofs.MatrixLaws.{sub-at, difference, negative_mul, sub_eq_zeros, sub_mul_mat, zeros_mul}
+use Rattle.linear_algebra.specs.Typed.{as_row}
+use Rattle.linear_algebra.proofs.MatrixLaws.{sub-at, sub_eq_zeros, sub_mul_mat, zeros_mul}
 use Rattle.linear_algebra.proofs.PartsLaws.{Row-eq}
 use Rattle.linear_algebra.proofs.Typed.{as_row-entry, as_mat-entry, as_row-times}
 use Rattle.linear_algebra.proofs.Rows.{IsRow-times, length-rows_of}
-use Rattle.linear_algebra.proofs.Reduced.{zero_from_leading}
 use Rattle.linear_algebra.proofs.ReducedSpans.{get_or-remainder, length-remainder, remainder-small, remainder-at_pivot}
 use Rattle.linear_algebra.proofs.RowForm.{reduced_independent}
 use Rattle.linear_algebra.proofs.RowFormUnique.{row_reduced-as_mat, combination-at}

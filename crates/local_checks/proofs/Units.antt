@@ -1,9 +1,9 @@
 -- The identity of the algebra of families.
-use Rattle.std.proofs.Common.{ℕ, ◌<◌, ◌≤◌, ◌≡◌, ◌+◌, ◌-◌, ◌*◌, ◌/◌, ◌%◌, List, ◌++◌, get_or, length, take, drop, sym, ap, ap₂, ◌∙◌, inl, inr, arith, subst}
+use Rattle.std.proofs.Common.{ℕ, ◌<◌, ◌≤◌, ◌≡◌, ◌+◌, ◌*◌, List, ◌++◌, get_or, length, take, drop, sym, ap, ap₂, ◌∙◌, inl, inr, arith, subst}
 use Rattle.std.proofs.lemmas.Bool.{cases_lt}
 use Rattle.std.proofs.lemmas.Nat.{div-mul-add, mod-mul-add}
 use Rattle.linear_algebra.specs.Field.{Gf}
-use Rattle.linear_algebra.specs.Matrix.{Mat-eq_below, delta, one}
+use Rattle.linear_algebra.specs.Matrix.{Mat-eq_below, delta}
 use Rattle.linear_algebra.specs.BlockFamilies.{total}
 use Rattle.linear_algebra.specs.Typed.{as_row}
 use Rattle.linear_algebra.proofs.BlockFamilies.{total_grows}
@@ -12,8 +12,7 @@ use Rattle.linear_algebra.proofs.Solutions.{flatten_all-same}
 use Rattle.fp_linear.specs.Slices.{AreElements, IsWritten}
 use Rattle.fp_linear.proofs.Slices.{IsWritten-none}
 use Rattle.representations.specs.Quiver.{Quiver}
-use Rattle.representations.specs.Rep.{Rep}
-use Rattle.representations.specs.HomSpace.{unknowns, unflat}
+use Rattle.representations.specs.HomSpace.{unknowns}
 use Rattle.representations.proofs.HomSpace.{flat_of}
 use Rattle.representations.proofs.Equations.{unflat-at}
 use Rattle.local_modules.specs.FamilyAlgebra.{row_identity}

@@ -1,12 +1,12 @@
 -- From which power on an ideal of families is zero, vertex by vertex.
-use Rattle.std.proofs.Common.{ℕ, suc, ◌<◌, ◌≤◌, ◌≡◌, ◌≢◌, ◌+◌, ◌*◌, List, get_or, length, take, drop, sym, ap, ap₂, ◌∙◌, inl, inr, arith, subst, add-one, nat_eq, eq-eqb, ne_eqb}
+use Rattle.std.proofs.Common.{ℕ, ◌<◌, ◌≤◌, ◌≡◌, ◌≢◌, ◌+◌, ◌*◌, List, get_or, length, drop, sym, ap, ◌∙◌, inl, inr, arith, subst, add-one, nat_eq, eq-eqb, ne_eqb}
 use Rattle.std.proofs.lemmas.Bool.{cases_lt, cases_eq}
 use Rattle.std.proofs.lemmas.List.{get_or-drop, get_or_default}
 use Rattle.std.specs.Prelude.{Bool, true, false, MatchBool, Option, None, Some, MatchOption}
 use Rattle.linear_algebra.specs.Field.{Gf}
-use Rattle.linear_algebra.specs.Matrix.{Mat, Mat-eq_below, one}
+use Rattle.linear_algebra.specs.Matrix.{Mat, Mat-eq_below}
 use Rattle.linear_algebra.specs.Parts.{row}
-use Rattle.linear_algebra.specs.Rank.{IsInSpan, HasRightInverse}
+use Rattle.linear_algebra.specs.Rank.{HasRightInverse}
 use Rattle.linear_algebra.specs.BlockFamilies.{total}
 use Rattle.linear_algebra.proofs.BlockFamilies.{total_grows}
 use Rattle.linear_algebra.proofs.PartsLaws.{row-at}

@@ -1,5 +1,5 @@
 -- Images of rows in lent memory under square blocks.
-use Rattle.std.specs.Prelude.{ℕ, zero, ◌<◌, ◌≤◌, ◌≢◌, ◌+◌, ◌*◌, List, drop}
+use Rattle.std.specs.Prelude.{ℕ, ◌<◌, ◌≤◌, ◌+◌, ◌*◌, List, drop}
 use Rattle.linear_algebra.specs.Field.{Gf}
 use Rattle.linear_algebra.specs.Matrix.{Mat}
 use Rattle.linear_algebra.specs.Parts.{row}

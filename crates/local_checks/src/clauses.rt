@@ -93,7 +93,15 @@ pub fn is_printed_ideal(
     let rank = write_ideal(header, m, basis, ideal, ring, rows, pivots) as usize;
     let count = rank * work.len();
     let ring_count = basis.rows() as usize;
-    is_ideal(header, m, ring, ring_count, &rows[..count], &pivots[..rank], work)
+    is_ideal(
+        header,
+        m,
+        ring,
+        ring_count,
+        &rows[..count],
+        &pivots[..rank],
+        work,
+    )
 }
 
 /// Whether each product of `power` members of the ideal is zero, and no smaller number from 1 on has this property. The slices are worked in: `ring`, `rows`

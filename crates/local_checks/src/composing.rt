@@ -12,14 +12,7 @@ use module_types::Module;
 use path_algebra::Header;
 
 /// Writes the product of the square blocks with `size` rows that begin at `from`.
-fn compose_block(
-    field: Field,
-    size: usize,
-    from: usize,
-    left: &[u8],
-    right: &[u8],
-    out: &mut [u8],
-)
+fn compose_block(field: Field, size: usize, from: usize, left: &[u8], right: &[u8], out: &mut [u8])
     requires left_elements { AreElements field left.now }
     requires right_elements { AreElements field right.now }
     requires elements { AreElements field out.old }

@@ -12,7 +12,9 @@ mod residues;
 mod rows;
 mod subrings;
 
-pub use clauses::{is_not_zero, is_printed_frobenius, is_printed_ideal, is_printed_power, write_ideal};
+pub use clauses::{
+    is_not_zero, is_printed_frobenius, is_printed_ideal, is_printed_power, write_ideal,
+};
 pub use composing::compose;
 pub use ideals::{has_product, is_ideal};
 pub use least_powers::is_least_power;

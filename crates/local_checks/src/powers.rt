@@ -57,7 +57,14 @@ fn add_images(
 {
     let start = rank as usize * size as usize;
     let end = start + count as usize * size as usize;
-    write_images(field, size as usize, count as usize, rows, block, &mut next[start..end]);
+    write_images(
+        field,
+        size as usize,
+        count as usize,
+        rows,
+        block,
+        &mut next[start..end],
+    );
     reduce_rows(field, rank + count, size, &mut next[..end], pivots)
 }
 

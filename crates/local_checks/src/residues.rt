@@ -152,10 +152,28 @@ pub fn has_frobenius_residue(
     let count = ring_pivots.len() as u32;
     let minus = header.field.neg(1);
     let first = remainders_rank(
-        header, m, 0, count, ring, rows, pivots, rest, rest_pivots, work,
+        header,
+        m,
+        0,
+        count,
+        ring,
+        rows,
+        pivots,
+        rest,
+        rest_pivots,
+        work,
     );
     let second = remainders_rank(
-        header, m, minus, count, ring, rows, pivots, rest, rest_pivots, work,
+        header,
+        m,
+        minus,
+        count,
+        ring,
+        rows,
+        pivots,
+        rest,
+        rest_pivots,
+        work,
     );
     if pivots.len() + first as usize != ring_pivots.len() {
         return false;

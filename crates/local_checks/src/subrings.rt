@@ -174,7 +174,16 @@ fn commutes_with(
     for j in 0..ring_pivots.len() {
         let start = j * count;
         let end = start + count;
-        if !commute(header, m, left, &ring[start..end], rows, pivots, work, other) {
+        if !commute(
+            header,
+            m,
+            left,
+            &ring[start..end],
+            rows,
+            pivots,
+            work,
+            other,
+        ) {
             return false;
         }
     }

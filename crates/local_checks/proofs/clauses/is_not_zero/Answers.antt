@@ -1,5 +1,4 @@
-use Rattle.std.proofs.Common.{ℕ, ◌≡◌, ◌<◌, ◌∙◌, sym, arith, get_or, length}
-use Rattle.std.proofs.lemmas.List.{get_or_default}
+use Rattle.std.proofs.Common.{◌<◌, ◌∙◌, arith, length}
 use Rattle.local_checks.proofs.Composites.{other_default}
 use Rattle.local_checks.proofs.PrintedIdeals.{has_rows, has_no_rows}
 use Rattle.local_checks.proofs.clauses.is_not_zero.Goals as goal

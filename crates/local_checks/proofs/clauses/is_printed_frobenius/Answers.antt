@@ -1,9 +1,6 @@
-use Rattle.std.proofs.Common.{ℕ, ◌≡◌, ◌≤◌, ◌*◌, length, take, sym, ap, ◌∙◌, arith, subst, mul-le-mul_right}
-use Rattle.std.proofs.lemmas.List.{length-take-le}
+use Rattle.std.proofs.Common.{length, ◌∙◌, arith, subst}
 use Rattle.linear_algebra.specs.Matrix.{Mat}
-use Rattle.fp_linear.proofs.LentRows.{AreElements-take}
 use Rattle.claim_conditions.specs.LocalConditions.{families_of}
-use Rattle.local_checks.specs.Families.{family_space}
 use Rattle.local_checks.specs.Rows.{IsSpaceOf}
 use Rattle.local_checks.proofs.PrintedIdeals.{ideal_inside, ideal_closed, printed_frobenius_decided, rest_shape}
 use Rattle.local_checks.proofs.clauses.is_printed_frobenius.Goals as goal

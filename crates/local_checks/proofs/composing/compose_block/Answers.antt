@@ -1,4 +1,4 @@
-use Rattle.std.proofs.Common.{◌∙◌, arith}
+use Rattle.std.proofs.Common.{arith}
 use Rattle.local_checks.proofs.Composites.{block_step}
 use Rattle.local_checks.proofs.composing.compose_block.Goals as goal
 

@@ -1,5 +1,4 @@
-use Rattle.std.proofs.Common.{ℕ, ◌≡◌, ◌<◌, ◌≤◌, ◌+◌, ◌*◌, length, sym, ap, ap₂, ◌∙◌, inl, inr, arith}
-use Rattle.std.proofs.lemmas.Bool.{cases_eq}
+use Rattle.std.proofs.Common.{ℕ, ◌+◌, ◌*◌, length, sym, ap, ap₂, ◌∙◌, arith}
 use Rattle.local_modules.specs.FamilyAlgebra.{families}
 use Rattle.module_types.specs.Algebras.{algebra_at}
 use Rattle.module_types.specs.Readings.{read}

@@ -1,4 +1,4 @@
-use Rattle.std.proofs.Common.{ℕ, ◌≡◌, ◌≤◌, ◌+◌, ◌*◌, get_or, refl, sym, ap, ◌∙◌, arith, length, mul-le-mul_right}
+use Rattle.std.proofs.Common.{ℕ, ◌≡◌, ◌≤◌, ◌+◌, ◌*◌, sym, ◌∙◌, arith, length, mul-le-mul_right}
 use Rattle.std.proofs.lemmas.List.{length-take-le}
 use Rattle.module_types.specs.Algebras.{algebra_at}
 use Rattle.module_checks.proofs.Sides.{dim_small}

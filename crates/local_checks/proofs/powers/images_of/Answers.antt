@@ -1,4 +1,4 @@
-use Rattle.std.proofs.Common.{ℕ, ◌≤◌, ◌+◌, ◌-◌, ◌*◌, refl, arith, subst, length}
+use Rattle.std.proofs.Common.{ℕ, ◌+◌, ◌-◌, ◌*◌, refl, arith, subst}
 use Rattle.fp_linear.proofs.LentRows.{AreElements-drop}
 use Rattle.local_modules.specs.ImageChain.{IsImageOf}
 use Rattle.local_checks.specs.Standing.{standing}

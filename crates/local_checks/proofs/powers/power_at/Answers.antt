@@ -1,4 +1,4 @@
-use Rattle.std.proofs.Common.{ℕ, ◌≡◌, ◌≤◌, ◌+◌, List, get_or, ◌*◌, refl, sym, ap, ◌∙◌, arith, subst, take, length, mul-le-mul_right}
+use Rattle.std.proofs.Common.{ℕ, ◌≡◌, ◌≤◌, ◌+◌, List, get_or, ◌*◌, sym, ap, ◌∙◌, arith, subst, length, mul-le-mul_right}
 use Rattle.std.proofs.lemmas.List.{get_or-take}
 use Rattle.linear_algebra.specs.Matrix.{Mat}
 use Rattle.local_modules.specs.ImageChain.{IsImageAfter, IsImageOf, VanishFrom}

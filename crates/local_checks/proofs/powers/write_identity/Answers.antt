@@ -1,6 +1,4 @@
-use Rattle.std.proofs.Common.{arith, subst, sym}
-use Rattle.linear_algebra.specs.Field.{order}
-use Rattle.std.proofs.Common.{◌<◌}
+use Rattle.std.proofs.Common.{arith}
 use Rattle.fp_linear.proofs.Slices.{AreElements-set}
 use Rattle.local_checks.proofs.Images.{identity_more, standing_identity, delta_small}
 use Rattle.local_checks.proofs.powers.write_identity.Goals as goal

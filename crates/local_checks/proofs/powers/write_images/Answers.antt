@@ -1,4 +1,4 @@
-use Rattle.std.proofs.Common.{ℕ, ◌+◌, ◌-◌, ◌*◌, ◌∙◌, ap, arith, length, drop, take}
+use Rattle.std.proofs.Common.{ℕ, ◌+◌, ◌-◌, ◌*◌, ◌∙◌, ap, arith, drop, take}
 use Rattle.linear_algebra.specs.Rows.{rows_of}
 use Rattle.linear_algebra.proofs.Rows.{length-rows_of}
 use Rattle.fp_linear.proofs.Matrices.{row-part}

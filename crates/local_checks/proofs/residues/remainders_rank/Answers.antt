@@ -1,4 +1,4 @@
-use Rattle.std.proofs.Common.{ℕ, ◌≡◌, ◌+◌, ◌-◌, ◌*◌, length, take, drop, sym, ap, ◌∙◌, arith, subst}
+use Rattle.std.proofs.Common.{ℕ, length, ◌∙◌, arith, subst}
 use Rattle.linear_algebra.specs.Field.{order}
 use Rattle.linear_algebra.specs.Matrix.{◌⊞◌, ◌⊙◌}
 use Rattle.local_modules.specs.Algebra.{Element, power_in}

@@ -1,10 +1,4 @@
-use Rattle.std.proofs.Common.{ℕ, ◌<◌}
-use Rattle.linear_algebra.specs.Field.{order}
-use Rattle.linear_algebra.specs.Matrix.{◌⊞◌, ◌⊙◌}
-use Rattle.linear_algebra.specs.Parts.{row}
 use Rattle.fp_linear.specs.Slices.{AreElements}
-use Rattle.local_modules.specs.Algebra.{power_in}
-use Rattle.claim_conditions.specs.LocalConditions.{families_of}
 use Rattle.local_checks.specs.Families.{IsFamily, family_rows}
 use Rattle.local_checks.specs.Remainders.{AreRemaindersUpTo}
 use Rattle.local_checks.proofs.residues.remainders_rank.Given as goal

@@ -1,5 +1,4 @@
-use Rattle.std.proofs.Common.{ℕ, ◌≡◌, List, sym, ap, ◌∙◌, arith, subst, add-one}
-use Rattle.linear_algebra.specs.Field.{order}
+use Rattle.std.proofs.Common.{sym, ap, ◌∙◌, arith, subst, add-one}
 use Rattle.linear_algebra.specs.FieldLaws.{one-lt-order}
 use Rattle.local_modules.specs.Algebra.{power_in}
 use Rattle.local_modules.proofs.AlgebraLaws.{power_in-one, power_in-suc}

@@ -1,4 +1,4 @@
-use Rattle.std.proofs.Common.{◌≡◌, ◌≤◌}
+use Rattle.std.proofs.Common.{◌≡◌}
 use Rattle.local_modules.specs.Algebra.{power_in}
 use Rattle.claim_conditions.specs.LocalConditions.{families_of}
 use Rattle.local_checks.specs.Families.{IsFamily, family}

@@ -1,6 +1,4 @@
-use Rattle.std.proofs.Common.{ℕ, List, length, sym, ap, ap₂, ◌∙◌}
 use Rattle.linear_algebra.specs.Field.{order}
-use Rattle.linear_algebra.specs.Matrix.{◌⊞◌, ◌⊙◌}
 use Rattle.local_modules.specs.Algebra.{power_in}
 use Rattle.claim_conditions.specs.LocalConditions.{families_of}
 use Rattle.local_checks.specs.Families.{family}

@@ -1,8 +1,6 @@
-use Rattle.std.proofs.Common.{length, sym, ap, ap₂, ◌∙◌, arith}
-use Rattle.linear_algebra.specs.Field.{neg}
 use Rattle.linear_algebra.specs.FieldLaws.{neg_below}
 use Rattle.claim_conditions.specs.LocalConditions.{families_of}
-use Rattle.local_checks.specs.Families.{family, family_space}
+use Rattle.local_checks.specs.Families.{family}
 use Rattle.local_checks.proofs.ClosedSpaces.{commute_decided}
 use Rattle.local_checks.proofs.subrings.commute.Goals as goal
 

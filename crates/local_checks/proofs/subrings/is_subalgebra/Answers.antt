@@ -1,6 +1,3 @@
-use Rattle.std.proofs.Common.{subst, sym}
-use Rattle.linear_algebra.specs.Rank.{IsInSpan}
-use Rattle.local_modules.specs.Algebra.{Element}
 use Rattle.claim_conditions.specs.LocalConditions.{families_of}
 use Rattle.local_checks.specs.Families.{family_space}
 use Rattle.local_checks.proofs.ClosedSpaces.{subalgebra_decided}

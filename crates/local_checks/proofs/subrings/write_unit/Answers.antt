@@ -1,4 +1,4 @@
-use Rattle.std.proofs.Common.{ℕ, ◌≡◌, ◌≤◌, ◌+◌, ◌-◌, ◌*◌, length, sym, ap, ap₂, ◌∙◌, arith}
+use Rattle.std.proofs.Common.{ℕ, ◌+◌, ◌*◌, length, sym, ap, ap₂, ◌∙◌, arith}
 use Rattle.module_types.specs.Algebras.{algebra_at}
 use Rattle.local_checks.proofs.Composites.{block_room, total_more, other_default}
 use Rattle.local_checks.proofs.Units.{units_more, unit_of_module}
