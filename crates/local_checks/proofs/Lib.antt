@@ -1,0 +1,13 @@
+pub mod Spaces
+pub mod Places
+pub mod Composites
+pub mod RowLists
+pub mod Closures
+pub mod Images
+pub mod VertexPowers
+pub mod PrintedIdeals
+pub mod ResidueForms
+pub mod Units
+pub mod ClosedSpaces
+pub mod Remaining
+pub mod FrobeniusSpaces

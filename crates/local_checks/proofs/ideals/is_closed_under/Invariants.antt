@@ -1,0 +1,10 @@
+use Rattle.claim_conditions.specs.LocalConditions.{families_of}
+use Rattle.local_checks.specs.Families.{IsFamily, family, family_space}
+use Rattle.local_checks.specs.Closures.{IsClosedUnder}
+use Rattle.local_checks.proofs.ideals.is_closed_under.Given as goal
+
+abbrev pub invariant-loop-j : goal.invariant-loop-j
+invariant-loop-j l = record {
+  work : IsFamily l.fn.header l.fn.m l.work;
+  closed : IsClosedUnder (families_of l.fn.header l.fn.m) (family_space l.fn.header l.fn.m l.rows l.pivots) (family l.fn.header l.fn.m l.left) l.j;
+}

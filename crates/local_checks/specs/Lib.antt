@@ -1,0 +1,9 @@
+pub mod Standing
+pub mod Families
+pub mod Composites
+pub mod Rows
+pub mod Closures
+pub mod Images
+pub mod Vertices
+pub mod Remainders
+pub mod Units
