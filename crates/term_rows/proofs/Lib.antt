@@ -1,0 +1,4 @@
+pub mod SumSteps
+pub mod AddedWords
+pub mod ModuleSteps
+pub mod TargetSteps

@@ -1,0 +1,2 @@
+pub mod SumDims
+pub mod RowSteps
