@@ -1,2 +1,3 @@
 pub mod SumDims
 pub mod RowSteps
+pub mod TermCells

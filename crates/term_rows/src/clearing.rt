@@ -5,7 +5,7 @@ ghost use Rattle.fp_linear.specs.Slices.{AreElements};
 ghost use Rattle.fp_linear.specs.Meeting.{IsClearFrom};
 
 /// Writes zeros.
-pub fn clear(entries: &mut [u8])
+pub(crate) fn clear(entries: &mut [u8])
     ensures clear { IsClearFrom 0 entries.new }
     ensures elements { (q : Gf) → AreElements q entries.new }
 {

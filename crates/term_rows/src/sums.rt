@@ -11,8 +11,7 @@ ghost use Rattle.term_rows.specs.SumDims.{side_in_table, sum_dim, AreVertices, I
 ghost use Rattle.term_rows.specs.RowSteps.{IsStep, IsAddedFrom, HasProducts, combined};
 
 use crate::clearing::clear;
-use alg_table::Side as TableSide;
-use alg_table::Table;
+use alg_table::{Side as TableSide, Table};
 use module_types::{Side, source_at, target_at};
 use seq::Seq;
 
