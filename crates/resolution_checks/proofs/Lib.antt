@@ -1,5 +1,5 @@
 pub mod ZeroProducts
 pub mod CompositesAt
 pub mod RanksAt
-pub mod IndependenceByRanks
 pub mod KernelBases
+pub mod FollowEntries
