@@ -23,7 +23,7 @@ pub kernel_basis_once : {q : Gf} {m n k : ℕ} (f : Mat q m n) (K : Mat q k m) (
 kernel_basis_once {q} {m} {n} f K pivot r kills spans =
     let G = reduced_form (complement f).kernel in
     let killed : G.rows · f ≡ zeros q G.size n =
-        ap (λ z. z · f) (sym G.spanned.is) ∙ mul_assoc_mat G.spanned.by (complement f).kernel f ∙ ap (λ z. G.spanned.by · z) (complement f).kernel_kills ∙ mul_zeros G.spanned.by in
+    ap (λ z. z · f) (sym G.spanned.is) ∙ mul_assoc_mat G.spanned.by (complement f).kernel f ∙ ap (λ z. G.spanned.by · z) (complement f).kernel_kills ∙ mul_zeros G.spanned.by in
     row_form_unique K G.rows pivot G.pivot r G.reduced
     (in_span_trans G.rows (complement f).kernel K G.spans (kernel_spans f (complement f) K kills))
     (span_of_rows K G.rows (λ y. spans (y · G.rows) (mul_assoc_mat y G.rows f ∙ ap (λ z. y · z) killed ∙ mul_zeros y)))

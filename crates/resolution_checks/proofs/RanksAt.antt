@@ -32,7 +32,7 @@ pub rank_of_slice : (q : Gf) (m n rows columns : ℕ) (M : Mat q m n) (old new p
     → ReducesTo q columns (rows_of rows columns old) (rows_of rows columns new) pivots r → as_mat q m n (rows_of m n old) ≡ M → r ≡ rank M
 rank_of_slice q m n rows columns M old new pivots r e d a b f h =
     let R : ReducesTo q n (rows_of m n old) (rows_of m n new) pivots r =
-        subst (λ m. ReducesTo q n (rows_of m n old) (rows_of m n new) pivots r) (sym e) (subst (λ n. ReducesTo q n (rows_of rows n old) (rows_of rows n new) pivots r) (sym d) f) in
+    subst (λ m. ReducesTo q n (rows_of m n old) (rows_of m n new) pivots r) (sym e) (subst (λ n. ReducesTo q n (rows_of rows n old) (rows_of rows n new) pivots r) (sym d) f) in
     let F = rank_factorisation (as_mat q m n (rows_of m n old)) in
     sym (rank_is F ∙ rank_of_answer q m n (rows_of m n old) (rows_of m n new) pivots r (IsGrid-rows_of q m n old a) (IsGrid-rows_of q m n new b) R F) ∙ ap rank h
 

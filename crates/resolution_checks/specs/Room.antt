@@ -1,5 +1,5 @@
--- The room that is lent for deciding the conditions on resolutions.
-use Rattle.std.specs.Prelude.{ℕ, ◌≤◌, ◌+◌, ◌*◌, List}
+-- How large the terms are that the conditions on resolutions are decided for.
+use Rattle.std.specs.Prelude.{ℕ, ◌≤◌, List}
 use Rattle.quiver_paths.specs.declared.Path.{Path}
 use Rattle.path_algebra.specs.declared.Header.{Header}
 use Rattle.module_types.specs.declared.Module.{Module}
@@ -9,14 +9,6 @@ use Rattle.term_rows.specs.SumDims.{covered_dim, IsRoomFor}
 -- the largest dimension of a term, and so of what a term goes to
 abbrev pub most_dimension : ℕ
 most_dimension = 512
-
--- the places of a matrix between two such
-abbrev pub matrix_room : ℕ
-matrix_room = 262144
-
--- two rows, a place for each word, and two matrices
-abbrev pub resolution_room : ℕ → ℕ
-resolution_room words = 2 * most_dimension + words + 2 * matrix_room
 
 -- what each of the first terms goes to, and each of them, has at each vertex at most the largest dimension
 pub record AreSmall (words : List Path) (h : Header) (a : Module) (terms : List TermRows) (n : ℕ) : Type 0 where

@@ -25,7 +25,7 @@ pub fn following_by_words()
     ensures { (q : Gf) (Q : Quiver) (W : Words q Q) (Y : Rep q Q) (t next : Term) (j c i z : ℕ) → j < count t → c < Y.dim (vertex t j) → i < count next → z < Y.dim (vertex next i)
         → (follow_matrix W Y t next).at (total j (λ g. Y.dim (vertex t g)) + c) (total i (λ g. Y.dim (vertex next g)) + z)
         ≡ sum_to q (W.count (vertex t j) (vertex next i)) (λ p.
-            mul q ((generator_row (sum_of_term W t) next i).at 0 (total j (λ g. W.count (vertex t g) (vertex next i)) + p)) ((along_word W Y (vertex t j) (vertex next i) p).at c z)) }
+        mul q ((generator_row (sum_of_term W t) next i).at 0 (total j (λ g. W.count (vertex t g) (vertex next i)) + p)) ((along_word W Y (vertex t j) (vertex next i) p).at c z)) }
 {}
 
 /// A basis of a kernel in reduced row form is the one that the conditions speak of; rows are in its span exactly where their entries at the pivots, as
