@@ -3,3 +3,4 @@ pub mod CompositesAt
 pub mod RanksAt
 pub mod KernelBases
 pub mod FollowEntries
+pub mod FollowPlaces

@@ -5,7 +5,9 @@
 mod composing;
 mod exactness;
 pub mod laws;
+mod matrices;
 mod products;
 
 pub use composing::is_complex;
 pub use exactness::{is_exact, is_onto, term_rank};
+pub use matrices::first_failing_matrices;
