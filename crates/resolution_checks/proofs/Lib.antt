@@ -1,0 +1,6 @@
+pub mod ZeroProducts
+pub mod CompositesAt
+pub mod RanksAt
+pub mod KernelBases
+pub mod FollowEntries
+pub mod FollowPlaces

@@ -1,0 +1,4 @@
+pub mod Room
+pub mod Products
+pub mod Steps
+pub mod MatrixConditions

@@ -1,0 +1,3 @@
+pub mod SumDims
+pub mod RowSteps
+pub mod TermCells
