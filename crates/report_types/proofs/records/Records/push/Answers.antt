@@ -1,4 +1,4 @@
-use Rattle.std.proofs.Common.{refl, [], ◌∷◌}
+use Rattle.std.proofs.Common.{refl}
 use Rattle.report_types.specs.declared.claims.Record.{Record}
 use Rattle.report_types.specs.Numbers.{modules_of, maps_of}
 use Rattle.report_types.proofs.Places.{pushed, kept}
