@@ -1,2 +1,3 @@
+pub mod NumberReading
 pub mod Taking
 pub mod WrittenLines

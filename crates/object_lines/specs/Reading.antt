@@ -3,6 +3,8 @@ use Rattle.std.specs.Prelude.{ℕ, ◌≡◌, ◌<◌, ◌≤◌, List, [], ◌�
 use Rattle.std.specs.List.{concat}
 use Rattle.linear_algebra.specs.Field.{Gf, order}
 use Rattle.linear_algebra.specs.Rows.{IsRow}
+use Rattle.quiver_paths.specs.declared.Quiver.{Quiver}
+use Rattle.quiver_paths.specs.Quiver.{vertex_count}
 use Rattle.object_lines.specs.Spelling.{matrix_form}
 
 -- so many items, one for each token, taken behind those that were there
@@ -20,6 +22,13 @@ BeginsOtherwise spell IsOne count tokens = (xs : List ℕ) (rest : List (List �
 -- an element of the field
 abbrev pub IsElement : Gf → ℕ → Type 0
 IsElement q e = e < order q
+
+-- a number that is not larger, and a place among the vertices
+abbrev pub IsAtMost : ℕ → ℕ → Type 0
+IsAtMost most n = n ≤ most
+
+abbrev pub IsVertex : Quiver → ℕ → Type 0
+IsVertex Q v = v < vertex_count Q
 
 -- a row, spelled by all tokens, that was added behind the entries that were there
 pub record AddsRow (q : Gf) (width : ℕ) (spell : List ℕ → List (List ℕ)) (old new : List ℕ) (tokens : List (List ℕ)) : Type 0 where

@@ -1,9 +1,11 @@
 //! The lines of modules, maps, matrices, rows and terms in a report: their spelling, writing them, and reading each by its tokens.
 #![tactic(auto)]
 
+mod numbers;
 mod objects;
 mod writing;
 
+pub use numbers::read_numbers;
 pub use objects::ModuleHead;
 pub use writing::{
     push_at_arrows, push_at_vertices, push_gen_line, push_ideal_line, push_left_line,
