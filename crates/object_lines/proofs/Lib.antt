@@ -1,3 +1,4 @@
 pub mod NumberReading
+pub mod RowReading
 pub mod Taking
 pub mod WrittenLines

@@ -3,10 +3,12 @@
 
 mod numbers;
 mod objects;
+mod rows;
 mod writing;
 
 pub use numbers::read_numbers;
 pub use objects::ModuleHead;
+pub use rows::{add_row_line, read_gen, read_phi, read_row};
 pub use writing::{
     push_at_arrows, push_at_vertices, push_gen_line, push_ideal_line, push_left_line,
     push_map_line, push_middle_line, push_module_line, push_phi_line, push_power_line,
