@@ -1,3 +1,4 @@
+pub mod MatrixReading
 pub mod NumberReading
 pub mod RowReading
 pub mod Taking
