@@ -1,4 +1,5 @@
 pub mod MatrixReading
+pub mod ModuleReading
 pub mod NumberReading
 pub mod RowReading
 pub mod Taking

@@ -17,13 +17,23 @@ use std::alloc::{AllocError, Global};
 use text_lines::Parts;
 
 /// Takes the next token if it is the numeral of this number, and says whether it was.
-pub(crate) fn take_number(tokens: &mut Parts<'_>, n: u64) -> bool
+fn take_number(tokens: &mut Parts<'_>, n: u64) -> bool
     ensures { MatchBool result (tokens.old ≡ decimal n ∷ tokens.new) ((rest : List (List ℕ)) → ¬ (tokens.old ≡ decimal n ∷ rest)) }
 {
     let Some(found) = tokens.take_numeral(n) else {
         return false;
     };
     found == n
+}
+
+/// Takes a word and the numeral of a number, and says whether they were there.
+pub(crate) fn take_word_and_number(tokens: &mut Parts<'_>, word: &[u8], k: u32) -> bool
+    ensures { MatchBool result (tokens.old ≡ word.now ∷ decimal k ∷ tokens.new) ((rest : List (List ℕ)) → ¬ (tokens.old ≡ word.now ∷ decimal k ∷ rest)) }
+{
+    if !tokens.take_word(word) {
+        return false;
+    }
+    take_number(tokens, k as u64)
 }
 
 /// The number from 1 to `last` that is the next token.

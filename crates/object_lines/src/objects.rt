@@ -8,7 +8,7 @@ ghost use Rattle.object_lines.specs.declared.objects.ModuleHead.{ModuleHead};
 ghost use Rattle.object_lines.specs.Spelling.{side_word, numbers_form, map_line};
 ghost use Rattle.object_lines.specs.Items.{AreNumbers, FitsModule, head_line, FitsMap};
 
-use crate::numbers::{next_place, only_place, read_numbers, take_number};
+use crate::numbers::{next_place, only_place, read_numbers, take_word_and_number};
 use module_types::Side;
 use path_algebra::Header;
 use seq::Seq;
@@ -68,16 +68,6 @@ fn side_and_dims(
         return Ok(None);
     };
     Ok(Some(ModuleHead { side, dims }))
-}
-
-/// Takes a word and the numeral of a number, and says whether they were there.
-fn take_word_and_number(tokens: &mut Parts<'_>, word: &[u8], k: u32) -> bool
-    ensures { MatchBool result (tokens.old ≡ word.now ∷ decimal k ∷ tokens.new) ((rest : List (List ℕ)) → ¬ (tokens.old ≡ word.now ∷ decimal k ∷ rest)) }
-{
-    if !tokens.take_word(word) {
-        return false;
-    }
-    take_number(tokens, k as u64)
 }
 
 /// Reads the tokens of the first line of module k: its side, and a dimension at each vertex, which add to at most 256. `Ok(None)`: they are not those of such a
