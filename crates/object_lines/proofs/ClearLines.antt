@@ -4,13 +4,12 @@ use Rattle.std.specs.List.{list_all}
 use Rattle.std.proofs.lemmas.Bool.{eqb-true, false_from_ne_true}
 use Rattle.std.proofs.lemmas.List.Sums.{AllPass-from_list_all}
 use Rattle.std.proofs.lemmas.List.Elements.{All-nil, All-cons, All-head, All-tail, All-append, All-weaker, All-map}
-use Rattle.linear_algebra.specs.Field.{Gf, order}
+use Rattle.linear_algebra.specs.Field.{Gf}
 use Rattle.linear_algebra.specs.Rows.{IsRow}
 use Rattle.fp_linear.specs.Matrix.{PlainMatrix}
 use Rattle.quiver_paths.specs.Name.{is_name_byte}
 use Rattle.quiver_paths.specs.Quiver.{vertex_count}
 use Rattle.path_algebra.specs.declared.Header.{Header}
-use Rattle.path_algebra.specs.Derivations.{IsNumber}
 use Rattle.module_types.specs.declared.Side.{Side}
 use Rattle.module_types.specs.declared.Side.TheVariants.{Right, Left}
 use Rattle.module_types.specs.Shapes.{HasShape}
@@ -24,7 +23,7 @@ use Rattle.header_text.proofs.Readers.{order_small}
 use Rattle.object_lines.specs.declared.objects.ModuleHead.{ModuleHead}
 use Rattle.object_lines.specs.Spelling.{numbers_form, slash_each, matrix_form, side_word, at_line, map_line, row_line, gen_line, phi_line, term_line, ideal_line, power_line, residue_word, residue_line, left_line, middle_line}
 use Rattle.object_lines.specs.Reading.{IsElement}
-use Rattle.object_lines.specs.Items.{AreNumbers, FitsModule, head_line, FitsMap, FitsTerm}
+use Rattle.object_lines.specs.Items.{FitsModule, head_line, FitsMap, FitsTerm}
 use Rattle.object_lines.proofs.RowReading.{row_all}
 use Rattle.object_lines.proofs.MatrixReading.{shape_rows}
 use Rattle.object_lines.proofs.ModuleReading.{numbers_of_fits}

@@ -1,8 +1,8 @@
 -- Whether tokens are those of a line is decided, token by token.
-use Rattle.std.proofs.Common.{◌≡◌, ◌≢◌, ℕ, ◌+◌, ◌-◌, ◌*◌, ◌<◌, ◌≤◌, ◌^◌, zero, suc, List, [], ◌∷◌, ◌++◌, map, take, drop, length, All, inl, inr, codes, decimal, refl, sym, ap, ◌∙◌, subst, arith, lit<}
+use Rattle.std.proofs.Common.{◌≡◌, ℕ, ◌-◌, ◌*◌, ◌<◌, ◌≤◌, ◌^◌, zero, suc, List, [], ◌∷◌, ◌++◌, map, take, drop, length, All, inl, inr, codes, decimal, refl, sym, ap, ◌∙◌, subst, arith, lit<}
 use Rattle.std.specs.Str.Parse.{digits_value}
 use Rattle.std.proofs.lemmas.Bool.{cases_eq}
-use Rattle.std.proofs.lemmas.List.{length-map, length-append, take-append-drop, take_at, drop_at}
+use Rattle.std.proofs.lemmas.List.{length-map, take-append-drop, take_at, drop_at}
 use Rattle.std.proofs.lemmas.List.Elements.{All-nil, All-cons, All-head, All-tail}
 use Rattle.linear_algebra.specs.Field.{Gf, order}
 use Rattle.linear_algebra.specs.FieldLaws.{order-pos}
@@ -26,9 +26,9 @@ use Rattle.object_lines.specs.declared.objects.ModuleHead.{ModuleHead}
 use Rattle.object_lines.specs.Spelling.{numbers_form, slash_each, matrix_form, side_word, at_line, map_line, row_line, gen_line, phi_line, term_line, ideal_line, power_line, residue_word, residue_line, left_line, middle_line}
 use Rattle.object_lines.specs.Reading.{IsElement, IsAtMost, IsVertex}
 use Rattle.object_lines.specs.Items.{AreNumbers, FitsModule, head_line, FitsMap, FitsTerm}
-use Rattle.object_lines.proofs.Taking.{cons_head, cons_tail, cons_not_nil, cons_same, same_front, items_decided, no_list}
+use Rattle.object_lines.proofs.Taking.{cons_head, cons_tail, cons_not_nil, cons_same, items_decided, no_list}
 use Rattle.object_lines.proofs.RowReading.{is_row, row_all}
-use Rattle.object_lines.proofs.MatrixReading.{shape_rows, rows_shape, too_large}
+use Rattle.object_lines.proofs.MatrixReading.{shape_rows, rows_shape}
 use Rattle.object_lines.proofs.ModuleReading.{numbers_of_fits, one_dims}
 
 -- one of some things has this spelling, or none has

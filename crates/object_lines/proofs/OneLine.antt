@@ -1,8 +1,8 @@
 -- What fits has one spelling: what is spelled alike is the same.
-use Rattle.std.proofs.Common.{◌≡◌, ◌≢◌, ℕ, ◌+◌, ◌<◌, ◌≤◌, ◌^◌, zero, suc, List, [], ◌∷◌, ◌++◌, map, length, get_or, All, codes, decimal, refl, sym, ap, ◌∙◌, subst, arith, lit<}
+use Rattle.std.proofs.Common.{◌≡◌, ℕ, ◌<◌, ◌≤◌, ◌^◌, List, [], ◌∷◌, length, get_or, All, codes, decimal, refl, sym, ap, ◌∙◌, arith, lit<}
 use Rattle.std.proofs.lemmas.List.{length-map}
 use Rattle.std.proofs.lemmas.List.Elements.{All-head, All-tail}
-use Rattle.linear_algebra.specs.Field.{Gf, order}
+use Rattle.linear_algebra.specs.Field.{Gf}
 use Rattle.linear_algebra.specs.Rows.{IsRow}
 use Rattle.fp_linear.specs.Matrix.{PlainMatrix}
 use Rattle.path_algebra.specs.declared.Header.{Header}
@@ -19,7 +19,7 @@ use Rattle.header_text.specs.Spelling.{vertex_name}
 use Rattle.header_text.proofs.Readers.{order_small}
 use Rattle.header_text.proofs.Uniqueness.{decimal_one, one_vertex}
 use Rattle.object_lines.specs.declared.objects.ModuleHead.{ModuleHead}
-use Rattle.object_lines.specs.Spelling.{numbers_form, slash_each, matrix_form, side_word, at_line, map_line, row_line, gen_line, phi_line, term_line, ideal_line, power_line, residue_word, residue_line}
+use Rattle.object_lines.specs.Spelling.{numbers_form, slash_each, matrix_form, side_word, at_line, map_line, row_line, gen_line, phi_line, term_line, ideal_line, power_line, residue_line}
 use Rattle.object_lines.specs.Reading.{IsElement, IsAtMost, IsVertex}
 use Rattle.object_lines.specs.Items.{AreNumbers, FitsModule, head_line, FitsMap, FitsTerm}
 use Rattle.object_lines.proofs.Taking.{cons_head, cons_tail, cons_same, same_front, one_list}
