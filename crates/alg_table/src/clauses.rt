@@ -10,7 +10,7 @@ ghost use Rattle.path_algebra.specs.Allowed.{IsAllowed};
 ghost use Rattle.path_algebra.specs.Rules.{AreElementTerms};
 ghost use Rattle.path_algebra.specs.Derivations.{IsNumber, NamesEarlier, AreSteps, step_elements};
 ghost use Rattle.path_algebra.specs.BasisClauses.{StepsHold, RulesHold, RuleHolds, HasFactor};
-ghost use Rattle.path_algebra.specs.ElementTerms.{AreTermsOf, AreTermsOfEach, IsRuleOf, negative};
+ghost use Rattle.path_algebra.specs.ElementTerms.{AreTermsOf, IsRuleOf, negative};
 
 use crate::elements::elements_for_rules;
 use fp_linear::Field;

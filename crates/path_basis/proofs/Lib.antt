@@ -1,5 +1,5 @@
 pub mod NoGap
-pub mod Settling
+pub mod Resolving
 pub mod Overlaps
 pub mod Growing
 pub mod Runs

@@ -37,7 +37,7 @@ use Rattle.path_reduction.proofs.Rewriting.{stays, reduced_below}
 use Rattle.path_reduction.proofs.RuleElements.{minus}
 use Rattle.path_reduction.proofs.Scaled.{sum_scaled}
 use Rattle.path_reduction.proofs.NewRules.{negatives_scaled, AreElementTerms-negated, from_negatives}
-use Rattle.path_basis.proofs.Settling.{IsWithin, tidy_reduction, reduced_within, paths_of}
+use Rattle.path_basis.proofs.Resolving.{IsWithin, tidy_reduction, reduced_within, paths_of}
 use Rattle.path_basis.proofs.NoGap.{acts_between, between_reduced, no_gap_reduced}
 
 all_members : {X : Type 0} (P : X → Type 0) (xs : List X) → ((x : X) → Contains xs x → P x) → All P xs

@@ -15,7 +15,7 @@ ghost use Rattle.path_basis.specs.Sifting.{AreSifted};
 ghost use Rattle.path_basis.specs.Used.{HasNoUnusedStep};
 ghost use Rattle.path_basis.specs.Results.{IsResult};
 
-use crate::completion::{Completion, complete, from_relations, settle_first_gap};
+use crate::completion::{Completion, complete, from_relations, resolve_first_gap};
 use crate::pruning::drop_unused_steps;
 use crate::tails::reduce_tails;
 use alg_table::{CheckBasisError, Table, check_basis};
@@ -70,7 +70,7 @@ fn complete_basis(alloc: Global, header: &Header, paths: &[Path]) -> Result<Redu
         if let Some(reduced) = basis_if_holds(alloc, header, &space, &mut state, paths)? {
             return Ok(reduced);
         }
-        settle_first_gap(alloc, header, &space, &mut state)?;
+        resolve_first_gap(alloc, header, &space, &mut state)?;
     }
 }
 

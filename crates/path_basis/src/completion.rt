@@ -78,7 +78,7 @@ pub(crate) fn from_relations(
         kept: 0,
     };
     for i in 0..header.relations.len() {
-        let _grown = settle_relation(alloc, header, space, &mut state, i)?;
+        let _grown = reduce_relation(alloc, header, space, &mut state, i)?;
     }
     Ok(state)
 }
@@ -122,10 +122,10 @@ fn improve(
     ensures grown { IfOk result (λ grown. MatchBool grown (free_count header.now state.new.rules.items < free_count header.now state.old.rules.items) (RelationsReduce header.now state.new.rules.items)) }
 {
     drop_steps_if_many(alloc, state)?;
-    if settle_open(alloc, header, space, state)? {
+    if resolve_open(alloc, header, space, state)? {
         return Ok(true);
     }
-    let grown = settle_relations(alloc, header, space, state)?;
+    let grown = reduce_relations(alloc, header, space, state)?;
     Ok(grown)
 }
 
@@ -152,7 +152,7 @@ fn drop_steps_if_many(alloc: Global, state: &mut Completion) -> Result<(), Alloc
 
 /// Makes rules of what was removed and of the obstructions, those with the least paths first, up to the first that gives one. Answers whether there
 /// was one.
-fn settle_open(
+fn resolve_open(
     alloc: Global,
     header: &Header,
     space: &ShortPaths,
@@ -168,7 +168,7 @@ fn settle_open(
     ensures grown { IfOk result (λ grown. MatchBool grown (free_count header.now state.new.rules.items < free_count header.now state.old.rules.items) (state.new.rules.items ≡ state.old.rules.items)) }
 {
     while let Some(next) = take_least(space, state) {
-        if settle_next(alloc, header, space, state, &next)? {
+        if resolve_next(alloc, header, space, state, &next)? {
             return Ok(true);
         }
     }
@@ -243,7 +243,7 @@ fn least_tip(rules: &[Rule]) -> Option<usize>
 }
 
 /// Makes a rule of a rule that was removed, or of an obstruction. Answers whether it gives one.
-fn settle_next(
+fn resolve_next(
     alloc: Global,
     header: &Header,
     space: &ShortPaths,
@@ -262,15 +262,15 @@ fn settle_next(
         (IsSame state.old.rules.items state.old.removed.items (heap_items state.old.obstructions) state.new.rules.items state.new.removed.items (heap_items state.new.obstructions))) }
 {
     match next {
-        Open::Removed(rule) => settle_rule(alloc, header, space, state, rule),
+        Open::Removed(rule) => reduce_removed(alloc, header, space, state, rule),
         Open::Obstruction(obstruction) => {
-            settle_obstruction(alloc, header, space, state, obstruction)
+            resolve_obstruction(alloc, header, space, state, obstruction)
         }
     }
 }
 
 /// Makes rules of the relations, up to the first that gives one. Answers whether there was one.
-fn settle_relations(
+fn reduce_relations(
     alloc: Global,
     header: &Header,
     space: &ShortPaths,
@@ -287,7 +287,7 @@ fn settle_relations(
         ((state.new.rules.items ≡ state.old.rules.items) × RelationsReduce header.now state.old.rules.items)) }
 {
     for i in 0..header.relations.len() {
-        if settle_relation(alloc, header, space, state, i)? {
+        if reduce_relation(alloc, header, space, state, i)? {
             return Ok(true);
         }
     }
@@ -295,7 +295,7 @@ fn settle_relations(
 }
 
 /// Makes a rule of the first gap, which there is where the rules are not closed.
-pub(crate) fn settle_first_gap(
+pub(crate) fn resolve_first_gap(
     alloc: Global,
     header: &Header,
     space: &ShortPaths,
@@ -318,14 +318,14 @@ pub(crate) fn settle_first_gap(
             Ok(())
         }
         Some(gap) => {
-            let _grown = settle_gap(alloc, header, space, state, &gap)?;
+            let _grown = resolve_gap(alloc, header, space, state, &gap)?;
             Ok(())
         }
     }
 }
 
 /// Makes a rule of the first gap, which always gives one.
-fn settle_gap(
+fn resolve_gap(
     alloc: Global,
     header: &Header,
     space: &ShortPaths,
@@ -344,7 +344,7 @@ fn settle_gap(
     ensures fewer { OnOk result (free_count header.now state.new.rules.items < free_count header.now state.old.rules.items) }
 {
     let rule = gap.rule as usize - 1;
-    let grown = settle_at(
+    let grown = resolve_at(
         alloc,
         header,
         space,
@@ -357,7 +357,7 @@ fn settle_gap(
 }
 
 /// Makes a rule of the relation with this number, counted from 0. Answers whether it gives one.
-fn settle_relation(
+fn reduce_relation(
     alloc: Global,
     header: &Header,
     space: &ShortPaths,
@@ -380,12 +380,12 @@ fn settle_relation(
     let relation = &header.relations[i];
     let terms = terms_of_relation(alloc, header, relation)?;
     let step = push_step(&mut state.steps, Step::Relation(i as u32 + 1))?;
-    let grown = settle(alloc, header, space, state, mark, Derived { terms, step })?;
+    let grown = add_reduced(alloc, header, space, state, mark, Derived { terms, step })?;
     Ok(grown)
 }
 
 /// Makes a rule of what the rule says whose tip stands in the obstruction's path, up to its end, if one does. Answers whether there is a new rule.
-fn settle_obstruction(
+fn resolve_obstruction(
     alloc: Global,
     header: &Header,
     space: &ShortPaths,
@@ -407,7 +407,7 @@ fn settle_obstruction(
     match occurrence_at_end(&state.rules, &arrows[..obstruction.end]) {
         None => Ok(false),
         Some(found) => {
-            let grown = settle_at(
+            let grown = resolve_at(
                 alloc,
                 header,
                 space,
@@ -422,7 +422,7 @@ fn settle_obstruction(
 }
 
 /// Makes a rule of what the rule with this number, counted from 0, says at the place of its tip in the path. Answers whether it gives one.
-fn settle_at(
+fn resolve_at(
     alloc: Global,
     header: &Header,
     space: &ShortPaths,
@@ -449,12 +449,12 @@ fn settle_at(
     let mark = state.steps.len();
     let rule = &state.rules[rule];
     let given = element_between(alloc, header, &mut state.steps, rule, path, before)?;
-    let grown = settle(alloc, header, space, state, mark, given)?;
+    let grown = add_reduced(alloc, header, space, state, mark, given)?;
     Ok(grown)
 }
 
 /// Makes a rule of what another rule says, if that does not reduce to zero. Answers whether it gives one.
-fn settle_rule(
+fn reduce_removed(
     alloc: Global,
     header: &Header,
     space: &ShortPaths,
@@ -475,13 +475,13 @@ fn settle_rule(
 {
     let mark = state.steps.len();
     let given = element_between(alloc, header, &mut state.steps, rule, &rule.tip, 0)?;
-    let grown = settle(alloc, header, space, state, mark, given)?;
+    let grown = add_reduced(alloc, header, space, state, mark, given)?;
     Ok(grown)
 }
 
 /// Makes a rule of what the element reduces to, if that is not zero; where it is, the steps from the mark on go. Answers whether there is a new
 /// rule.
-fn settle(
+fn add_reduced(
     alloc: Global,
     header: &Header,
     space: &ShortPaths,

@@ -1,5 +1,5 @@
 use Rattle.path_basis.proofs.NoGap.{no_gap_reduced}
-use Rattle.path_basis.proofs.Settling.{tidy_reduction}
+use Rattle.path_basis.proofs.Resolving.{tidy_reduction}
 use Rattle.path_basis.proofs.laws.no_gap_means_reduced.Goals as goal
 
 pub returns : goal.returns

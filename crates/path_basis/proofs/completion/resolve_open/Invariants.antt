@@ -2,7 +2,7 @@ use Rattle.std.proofs.Common.{◌≡◌, ◌+◌, length}
 use Rattle.std.specs.Prelude.{All}
 use Rattle.std.specs.BinaryHeap.{heap_items, heap_len}
 use Rattle.path_basis.specs.Completing.{IsObstruction, IsCompletion}
-use Rattle.path_basis.proofs.completion.settle_open.Given as goal
+use Rattle.path_basis.proofs.completion.resolve_open.Given as goal
 
 abbrev pub invariant-loop-next : goal.invariant-loop-next
 invariant-loop-next l = record {

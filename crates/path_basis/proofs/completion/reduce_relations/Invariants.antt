@@ -3,7 +3,7 @@ use Rattle.std.specs.Prelude.{All}
 use Rattle.std.specs.BinaryHeap.{heap_items}
 use Rattle.path_algebra.specs.declared.Relation.{Relation}
 use Rattle.path_basis.specs.Completing.{IsObstruction, IsCompletion, RelationReduces}
-use Rattle.path_basis.proofs.completion.settle_relations.Given as goal
+use Rattle.path_basis.proofs.completion.reduce_relations.Given as goal
 
 abbrev pub invariant-loop-i : goal.invariant-loop-i
 invariant-loop-i l = record {

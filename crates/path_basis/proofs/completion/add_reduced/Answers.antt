@@ -4,9 +4,9 @@ use Rattle.path_algebra.specs.declared.Term.{Term}
 use Rattle.path_algebra.specs.Reduction.{HasNoTip}
 use Rattle.path_reduction.specs.Derived.{AreDerived}
 use Rattle.path_reduction.specs.Reducing.{AreReducedTo}
-use Rattle.path_basis.proofs.Settling.{parallel_reduced}
+use Rattle.path_basis.proofs.Resolving.{parallel_reduced}
 use Rattle.path_basis.proofs.Growing.{derived_behind, derives_alone}
-use Rattle.path_basis.proofs.completion.settle.Goals as goal
+use Rattle.path_basis.proofs.completion.add_reduced.Goals as goal
 
 pub new_rule-requires-clause-parallel : goal.new_rule-requires-clause-parallel
 new_rule-requires-clause-parallel c =

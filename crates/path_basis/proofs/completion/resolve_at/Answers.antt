@@ -1,11 +1,11 @@
 use Rattle.std.proofs.Common.{sym, subst}
 use Rattle.path_reduction.specs.Occurrences.{StandsAt}
 use Rattle.path_algebra.specs.declared.rules.Rule.{Rule}
-use Rattle.path_basis.proofs.Settling.{parallel_between, match_more, closes_at_place}
-use Rattle.path_basis.proofs.completion.settle_at.Goals as goal
+use Rattle.path_basis.proofs.Resolving.{parallel_between, match_more, closes_at_place}
+use Rattle.path_basis.proofs.completion.resolve_at.Goals as goal
 
-pub settle-requires-clause-parallel : goal.settle-requires-clause-parallel
-settle-requires-clause-parallel c = parallel_between c.args.header.now c.index-rule.result.now c.args.path.now c.args.before _ c.in_ok-given.ensures.terms
+pub add_reduced-requires-clause-parallel : goal.add_reduced-requires-clause-parallel
+add_reduced-requires-clause-parallel c = parallel_between c.args.header.now c.index-rule.result.now c.args.path.now c.args.before _ c.in_ok-given.ensures.terms
 
 pub returns-clause-grown : goal.returns-clause-grown
 returns-clause-grown c = match_more _ _ _ _ c.in_ok-grown.grown
