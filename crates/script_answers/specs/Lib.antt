@@ -1,0 +1,12 @@
+pub mod Names
+pub mod Settings
+pub mod FirstTests
+pub mod Written
+pub mod ZeroTests
+pub mod Built
+pub mod Refusals
+pub mod Records
+pub mod Statements
+pub mod LateRefusals
+pub mod Taken
+pub mod Answers
