@@ -1,5 +1,5 @@
 -- Refusals of a statement that records show, and these records.
-use Rattle.std.specs.Prelude.{ℕ, zero, suc, ◌≡◌, ◌<◌, ◌≤◌, ◌+◌, ◌-◌, nat_eq, not, List, [], ◌∷◌, length, Option, Some}
+use Rattle.std.specs.Prelude.{ℕ, zero, suc, ◌≡◌, ◌<◌, ◌≤◌, ◌⊎◌, ◌+◌, ◌-◌, nat_eq, not, List, [], ◌∷◌, length, Option, Some}
 use Rattle.linear_algebra.specs.BlockFamilies.{total}
 use Rattle.linear_algebra.specs.Ranks.{rank}
 use Rattle.representations.specs.Submodule.{sub_rep}
@@ -41,19 +41,22 @@ pub record IsLargeTerm (at : Setting) (m : Module) (terms : List TermRows) (s di
       (λ U. dim ≡ projectives_dim at m.side (canonical_vertices (sub_rep U)))
   pub large : term_limit < dim
 
--- A record has the terms before term `step` of a resolution of module a, which is to have terms 0 to n, and that term is too large.
-pub record StopsAtTerm (at : Setting) (a : ℕ) (m : Module) (n : ℕ) (r : Record) (step dim : ℕ) : Type 0 where
-  pub before : ℕ
-  pub place : step ≡ suc before
-  pub inside : step ≤ n
-  pub shown : IsResolutionRecord a before r
-  pub large : IsLargeTerm at m (terms_of r) step dim
+-- A resolution that is to have terms 0 to n has them up to a place before, and the next one is too large.
+pub record StopsBefore (at : Setting) (m : Module) (n before : ℕ) (r : Record) (w : Why) : Type 0 where
+  pub dim : ℕ
+  pub is : w ≡ why.TermLimit (suc before) dim
+  pub inside : suc before ≤ n
+  pub large : IsLargeTerm at m (terms_of r) (suc before) dim
 
--- the same of the dual of a module, which is printed with it
-pub record DualStopsAtTerm (at : Setting) (dual : Module) (r : Record) (step dim : ℕ) : Type 0 where
-  pub place : step ≡ 1
+-- so of module a; of the dual of a module, which is printed with it
+pub record StopsAtTerm (at : Setting) (a : ℕ) (m : Module) (n : ℕ) (r : Record) (w : Why) : Type 0 where
+  pub before : ℕ
+  pub shown : IsResolutionRecord a before r
+  pub stops : StopsBefore at m n before r w
+
+pub record DualStopsAtTerm (at : Setting) (dual : Module) (r : Record) (w : Why) : Type 0 where
   pub shown : IsDualResolution at dual zero r
-  pub large : IsLargeTerm at dual (terms_of r) 1 dim
+  pub stops : StopsBefore at dual 1 zero r w
 
 -- ---- extensions, over terms 0 to n + 1
 
@@ -99,15 +102,24 @@ sequence_refused at m terms n = first_of (unless (not (nat_eq (length (vertices_
 abbrev pub IsRefusal : (at : Setting) → (NormalWords at.header → Option Why) → Why → Type 0
 IsRefusal at refused w = (n : NormalWords at.header) → refused n ≡ Some w
 
--- a resolution of module a of length 1
+-- a resolution of module a of length 1; of the dual of a module, which is printed with it
 pub record PresentationShows (at : Setting) (a : ℕ) (r : Record) (refused : List TermRows → NormalWords at.header → Option Why) (w : Why) : Type 0 where
   pub shown : IsResolutionRecord a 1 r
   pub is : IsRefusal at (refused (terms_of r)) w
 
+pub record DualPresentationShows (at : Setting) (dual : Module) (r : Record) (w : Why) : Type 0 where
+  pub shown : IsDualResolution at dual 1 r
+  pub is : IsRefusal at (transpose_refused at dual (terms_of r)) w
+
+pub record ExtensionStops (at : Setting) (n a : ℕ) (b : Module) (r : Record) (w : Why) : Type 0 where
+  pub shown : IsResolutionRecord a (suc n) r
+  pub is : extension_limit at b (terms_of r) n ≡ Some w
+
 -- ---- sequences
 
--- the module is not local, by a decomposition
-pub record IsDecomposable (at : Setting) (a : ℕ) (m : Module) (records : List Record) : Type 0 where
+-- the module is not local, by its decomposition
+pub record IsDecomposable (at : Setting) (a : ℕ) (m : Module) (records : List Record) (w : Why) : Type 0 where
+  pub is : w ≡ why.Decomposable
   pub shown : IsDecomposition at a m records
   pub not_local : LocalHolds at.header m → ⊥
 
@@ -116,34 +128,35 @@ pub record AreLocalRecords (at : Setting) (a : ℕ) (hom loc : Record) : Type 0 
   pub homs : IsHomRecord a a hom
   pub local : IsLocalRecord a (next_claim at) loc
 
+-- term 0 of its resolution is too large
+pub record IsLargeCover (at : Setting) (m : Module) (w : Why) : Type 0 where
+  pub is : w ≡ why.TermLimit zero (cover_dim at m)
+  pub large : term_limit < cover_dim at m
+
 abbrev pub SequenceShows : Setting → (a : ℕ) → Module → List Record → Why → Type 0
-SequenceShows at a m records why.Decomposable = IsDecomposable at a m records
-SequenceShows at a m (hom ∷ (loc ∷ [])) (why.TermLimit step dim) =
-    AreLocalRecords at a hom loc × (step ≡ zero) × (dim ≡ cover_dim at m) × (term_limit < dim)
-SequenceShows at a m (hom ∷ (loc ∷ (r ∷ []))) (why.TermLimit step dim) = AreLocalRecords at a hom loc × StopsAtTerm at a m 1 r step dim
-SequenceShows at a m (hom ∷ (loc ∷ (r ∷ []))) w = AreLocalRecords at a hom loc × PresentationShows at a r (sequence_refused at m) w
+SequenceShows at a m (hom ∷ (loc ∷ [])) w = AreLocalRecords at a hom loc × IsLargeCover at m w
+SequenceShows at a m (hom ∷ (loc ∷ (r ∷ []))) w =
+    AreLocalRecords at a hom loc × (StopsAtTerm at a m 1 r w ⊎ PresentationShows at a r (sequence_refused at m) w)
 SequenceShows at a m records w = ⊥
 
 -- ---- the table
 
 abbrev pub ExtensionShows : Setting → (n a : ℕ) → Module → Module → Record → Why → Type 0
-ExtensionShows at n a m b r (why.TermLimit step dim) = StopsAtTerm at a m (suc n) r step dim
-ExtensionShows at n a m b r w = IsResolutionRecord a (suc n) r × (extension_limit at b (terms_of r) n ≡ Some w)
+ExtensionShows at n a m b r w = StopsAtTerm at a m (suc n) r w ⊎ ExtensionStops at n a b r w
 
-abbrev pub TranslateShows : Setting → (a : ℕ) → (m : Module) → ((at : Setting) → Module → List TermRows → NormalWords at.header → Option Why) → Record → Why → Type 0
-TranslateShows at a m refused r (why.TermLimit step dim) = StopsAtTerm at a m 1 r step dim
-TranslateShows at a m refused r w = PresentationShows at a r (refused at m) w
+abbrev pub TranslateShows : (at : Setting) → (a : ℕ) → Module → (List TermRows → NormalWords at.header → Option Why) → Record → Why → Type 0
+TranslateShows at a m refused r w = StopsAtTerm at a m 1 r w ⊎ PresentationShows at a r refused w
 
 abbrev pub DualShows : Setting → (dual : Module) → Record → Why → Type 0
-DualShows at dual r (why.TermLimit step dim) = DualStopsAtTerm at dual r step dim
-DualShows at dual r w = IsDualResolution at dual 1 r × IsRefusal at (transpose_refused at dual (terms_of r)) w
+DualShows at dual r w = DualStopsAtTerm at dual r w ⊎ DualPresentationShows at dual r w
 
--- the statement is refused for this, behind these records, some at least, which show it
+-- The statement is refused for this behind these records, some at least, which show it.
 abbrev pub Shows : Setting → StatementKind → List Record → Why → Type 0
-Shows at (Resolve a n) (r ∷ []) (why.TermLimit step dim) = StopsAtTerm at (number_of at a) (module_of at a) n r step dim
+Shows at (Resolve a n) (r ∷ []) w = StopsAtTerm at (number_of at a) (module_of at a) n r w
 Shows at (Ext n a b) (r ∷ []) w = ExtensionShows at n (number_of at a) (module_of at a) (module_of at b) r w
-Shows at (Transpose name a) (r ∷ []) w = TranslateShows at (number_of at a) (module_of at a) transpose_refused r w
-Shows at (Tau name a) (r ∷ []) w = TranslateShows at (number_of at a) (module_of at a) translate_refused r w
+Shows at (Transpose name a) (r ∷ []) w = TranslateShows at (number_of at a) (module_of at a) (transpose_refused at (module_of at a)) r w
+Shows at (Tau name a) (r ∷ []) w = TranslateShows at (number_of at a) (module_of at a) (translate_refused at (module_of at a)) r w
 Shows at (Taui name a) (r ∷ []) w = DualShows at (dual_written at.header (module_of at a)) r w
-Shows at (Ars a left middle) records w = SequenceShows at (number_of at a) (module_of at a) records w
+Shows at (Ars a left middle) records w =
+    IsDecomposable at (number_of at a) (module_of at a) records w ⊎ SequenceShows at (number_of at a) (module_of at a) records w
 Shows at s records w = ⊥
