@@ -11,8 +11,8 @@ ghost use Rattle.script_run.specs.Reached.{IsReached, IsHalted, run_end};
 
 use crate::ends::{Halt, RunEnd};
 use claim_text::{write_end, write_header, write_record};
-use claim_types::{End, Record, Report};
 use quiv_io::{Sink, write_whole};
+use report_types::{End, Record, Report};
 use script_types::Script;
 use seq::Seq;
 use std::alloc::Global;
@@ -101,7 +101,8 @@ pub(crate) fn write_last<K: Sink>(
     let Ok(()) = write_whole(sink, &text) else {
         return RunEnd::WriteFault;
     };
-    end_of(last, whole.records.len() as u32)
+    let claims = whole.records.len() as u32;
+    end_of(whole.end, claims)
 }
 
 /// How a run ends whose report has this end and so many claims.
