@@ -5,21 +5,23 @@ use Rattle.std.proofs.lemmas.List.{length-append}
 use Rattle.quiv_io.specs.Counts.{Rose}
 use Rattle.quiv_io.specs.Bytes.{Gives}
 use Rattle.quiv_io.specs.Whole.{GivesAll}
-use Rattle.claim_types.specs.declared.reports.Report.{Report}
-use Rattle.claim_types.specs.declared.reports.Why.{Why}
-use Rattle.claim_types.specs.Numbered.{ConditionsHold}
-use Rattle.claim_types.specs.declared.verdicts.Clause.{Clause}
-use Rattle.claim_types.specs.declared.verdicts.Verdict.{Verdict}
-use Rattle.claim_types.specs.declared.verdicts.Verdict.TheVariants as verdict
-use Rattle.claim_types.specs.declared.reports.End.TheVariants as end
-use Rattle.claim_types.specs.Answers.{HasFewPaths}
-use Rattle.claim_types.proofs.ClaimLaws.{one_verdict}
-use Rattle.claim_types.proofs.EndLaws.{done_without_statements}
-use Rattle.claim_text.proofs.ReportLaws.{one_report, report_not_bad}
+use Rattle.report_types.specs.declared.reports.Report.{Report}
+use Rattle.report_types.specs.declared.reports.Why.{Why}
+use Rattle.report_types.specs.Verdicts.{ConditionsHold}
+use Rattle.claim_conditions.specs.declared.Clause.{Clause}
+use Rattle.report_types.specs.declared.verdicts.Verdict.{Verdict}
+use Rattle.report_types.specs.declared.verdicts.Verdict.TheVariants as verdict
+use Rattle.report_types.specs.declared.reports.End.TheVariants as end
+use Rattle.script_answers.specs.Answers.{HasFewPaths}
+use Rattle.report_types.proofs.VerdictLaws.{words_of, one_verdict}
+use Rattle.script_answers.proofs.Fronts.{ends_done}
+use Rattle.claim_text.specs.Texts.{IsTextOf}
+use Rattle.claim_text.proofs.ReportLaws.{report_not_bad}
 use Rattle.script_types.specs.declared.Script.{Script}
 use Rattle.script_lang.specs.Scripts.{IsScript}
 use Rattle.script_lang.proofs.ScriptLaws.{one_script, script_not_bad}
 use Rattle.script_run.specs.Runs.{IsRightReport}
+use Rattle.top_call.proofs.RunLemmas.{right_judged}
 use Rattle.top_call.specs.declared.outcome.Outcome.{Outcome}
 use Rattle.top_call.specs.declared.outcome.Outcome.TheVariants.{Done, Refused, Rejected, BadText, TooLong, Usage, ReadFault, WriteFault, NoMemory}
 use Rattle.top_call.specs.declared.modes.Mode.{Mode}
@@ -28,6 +30,10 @@ use Rattle.top_call.specs.Modes.{AsksFor, input_limit}
 use Rattle.top_call.specs.Answers.{Answers}
 use Rattle.top_call.specs.Outcomes.{IsText, IsBegun, IsStopped, IsAnswered, IsTooLong, Writes, HasCause}
 use Rattle.top_call.specs.Expected.{IsGood, IsDoneOrNoMemory}
+
+-- STAND-IN
+one_report : (text : List ℕ) (r s : Report) → IsTextOf text r → IsTextOf text s → r ≡ s
+one_report text r s a b = ?
 
 differs : codes "run" ∷ [] ≡ codes "check" ∷ [] → ⊥
 differs e = let n = ap (λ (l : List (List ℕ)). sizes l) e in absurd (omega (arith, n))
@@ -70,7 +76,8 @@ good_not_rejected : (mode : Mode) (input text : List ℕ) (claim : ℕ) (which :
 good_not_rejected Run input text claim which good a = a
 good_not_rejected Check input text claim which good a =
     let same : good.report ≡ a.report = one_report input good.report a.report good.reads a.reads in
-    verdicts_differ claim which (one_verdict a.report verdict.Holds (verdict.Fails claim which) (subst (λ (r : Report). (k : ℕ) → ConditionsHold r k) same good.conditions) a.verdict_is)
+    verdicts_differ claim which (one_verdict a.report (words_of a.report.header a.reads.report_is.header) verdict.Holds (verdict.Fails claim which)
+    (subst (λ (r : Report). (k : ℕ) → ConditionsHold r k) same good.conditions) a.verdict_is)
 
 good_not_bad : (mode : Mode) (input text : List ℕ) (line : ℕ) → IsGood mode input → Answers mode (BadText line) input text → ⊥
 good_not_bad Run input text line good a = script_not_bad input good.script line good.reads a.bad
@@ -105,7 +112,7 @@ module _ (words : List (List ℕ)) (left left' taken taken' : Option (List ℕ))
 
 -- what `run` writes with Done is accepted
 pub accepted : (input text : List ℕ) → Answers Run Done input text → IsGood Check text
-accepted input text a = record { report = a.report; reads = record { report_is = a.right.lawful; spelled = a.spelled }; conditions = a.right.conditions }
+accepted input text a = record { report = a.report; reads = record { report_is = a.right.lawful; judged = right_judged a.script a.report a.right.answers a.ends; spelled = a.spelled }; conditions = a.right.conditions }
 
 -- a script without statements, with few paths below its bound
 done_differs : (line : ℕ) (why : Why) → end.Done ≡ end.Refused line why → ⊥
@@ -115,5 +122,5 @@ pub without_statements : (input : List ℕ) (script : Script) → IsScript input
 without_statements input script reads few empty = record {
   script = script;
   reads = reads;
-  never = λ report line why right refused. done_differs line why (sym (done_without_statements script report few empty right.answers) ∙ refused);
+  never = λ report line why right refused. done_differs line why (sym (ends_done script report few empty right.answers) ∙ refused);
 }

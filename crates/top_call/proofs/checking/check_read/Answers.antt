@@ -1,6 +1,6 @@
 use Rattle.std.proofs.Common.{◌≡◌, ℕ, refl, sym, ap, ◌∙◌, subst}
-use Rattle.claim_types.specs.declared.verdicts.Verdict.TheVariants as verdict
-use Rattle.claim_types.specs.Verdicts.{IsVerdict}
+use Rattle.report_types.specs.declared.verdicts.Verdict.TheVariants as verdict
+use Rattle.report_types.specs.Verdicts.{IsVerdict}
 use Rattle.top_call.specs.Texts.{holds_text}
 use Rattle.top_call.proofs.OutcomeLemmas.{accepts}
 use Rattle.top_call.proofs.checking.check_read.Goals as goal
