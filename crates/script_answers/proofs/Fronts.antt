@@ -11,7 +11,7 @@ use Rattle.report_types.specs.declared.reports.Why.TheVariants as why
 use Rattle.report_types.specs.declared.reports.End.{End}
 use Rattle.report_types.specs.declared.reports.End.TheVariants.{Done, Refused}
 use Rattle.script_answers.specs.Taken.{IsTaken, IsRefused}
-use Rattle.script_answers.specs.Answers.{Stage, setting_at, behind, Makes, begun, next, RefusesNext, Ends, EndsAtBasis, IsWhole, AnswersScript, IsNext, taken, refused, IsPartOfNext, HasBegun, BeginsToAnswer, HasFewPaths, RefusesStatement}
+use Rattle.script_answers.specs.Answers.{Stage, setting_at, behind, Makes, begun, next, RefusesNext, Ends, EndsAtBasis, IsWhole, AnswersScript, IsNext, taken, refused, IsPartOfNext, HasBegun, BeginsToAnswer, HasFewPaths, IsUnrefused, RefusesStatement}
 
 -- one list in two ways as two behind one another: one of the first parts is a front of the other
 pub cuts : {A : Type 0} (a b c d : List A) → a ++ b ≡ c ++ d → ((m : List A) × (a ≡ c ++ m) × (d ≡ m ++ b)) ⊎ ((m : List A) × (c ≡ a ++ m) × (b ≡ m ++ d))
@@ -157,3 +157,21 @@ few_paths script report a done = elim a.answers [
   | inl none ↦ absurd (subst (EndsAtBasis script) done none.1)
   | inr whole ↦ few_at script whole.stage whole.makes
 ]
+
+-- ---- refusals over records
+
+meets : (script : Script) (records : List Record) (line : ℕ) (w : Why) → IsWhole script records (Refused line w) → IsUnrefused script records → ⊥
+meets script records line w whole free =
+    free whole.stage whole.last [] line w whole.makes (whole.all ∙ ap (λ l. whole.stage.records ++ l) (sym (append-nil whole.last))) whole.ends
+
+pub refusal_met : (script : Script) (report : Report) (line : ℕ) (w : Why) → HasFewPaths script → AnswersScript script report → report.end ≡ Refused line w
+    → IsUnrefused script report.records → ⊥
+refusal_met script report line w few a same free = elim a.answers [
+  | inl none ↦ many_paths script report.end none.1 few
+  | inr whole ↦ meets script report.records line w (subst (IsWhole script report.records) same whole) free
+]
+
+pub none_met : (script : Script) (records : List Record) → script.statements ≡ [] → IsUnrefused script records
+none_met script records none stage shown rest line w makes all refuses =
+    Contains-nil refuses.statement (subst (λ l. Contains l refuses.statement) none
+    (left_listed script stage makes refuses.statement (subst (λ l. Contains l refuses.statement) (sym refuses.first) (Contains-head refuses.statement refuses.rest))))

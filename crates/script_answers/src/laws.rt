@@ -1,6 +1,7 @@
 //! What holds of statements and of reports that answer a script. The functions do nothing: their contracts are laws.
 
 ghost use Rattle.std.specs.Prelude.{ℕ, ◌≡◌, [], ◌++◌, List};
+ghost use Rattle.path_algebra.specs.Allowed.{IsAllowed};
 ghost use Rattle.script_types.specs.declared.Script.{Script};
 ghost use Rattle.script_types.specs.declared.Statement.{Statement};
 ghost use Rattle.report_types.specs.declared.claims.Record.{Record};
@@ -9,7 +10,7 @@ ghost use Rattle.report_types.specs.declared.reports.Why.{Why};
 ghost use Rattle.report_types.specs.declared.reports.End.TheVariants.{Done, Refused};
 ghost use Rattle.script_answers.specs.Settings.{Setting};
 ghost use Rattle.script_answers.specs.Taken.{IsTaken, IsRefused};
-ghost use Rattle.script_answers.specs.Answers.{HasFewPaths, AnswersScript, BeginsToAnswer, RefusesStatement};
+ghost use Rattle.script_answers.specs.Answers.{HasFewPaths, AnswersScript, BeginsToAnswer, IsUnrefused, RefusesStatement};
 
 /// A statement that is taken with some records is not refused, neither at once nor behind some of them.
 pub fn taken_is_not_refused()
@@ -17,9 +18,9 @@ pub fn taken_is_not_refused()
         → IsRefused at s shown w → ⊥ }
 {}
 
-/// A statement that is refused at once is refused for one reason, and behind no records.
-pub fn refused_once()
-    ensures same { (at : Setting) (s : Statement) (v w : Why) → IsRefused at s [] v → IsRefused at s [] w → v ≡ w }
+/// Behind given records, or at once, a statement is refused for one reason.
+pub fn one_refusal()
+    ensures { (at : Setting) (s : Statement) (records : List Record) (v w : Why) → IsAllowed at.header → IsRefused at s records v → IsRefused at s records w → v ≡ w }
 {}
 
 /// The records of a report that answers a script have begun to answer it, and so has each front of them.
@@ -35,4 +36,11 @@ pub fn only_statements_are_refused()
         → RefusesStatement script line w }
     ensures done { (script : Script) (report : Report) → HasFewPaths script → script.statements ≡ [] → AnswersScript script report → report.end ≡ Done }
     ensures few { (script : Script) (report : Report) → AnswersScript script report → report.end ≡ Done → HasFewPaths script }
+{}
+
+/// Where a statement is refused, some statement meets a refusal over the records that were made. Of a script without statements none does.
+pub fn refusals_are_met()
+    ensures met { (script : Script) (report : Report) (line : ℕ) (w : Why) → HasFewPaths script → AnswersScript script report → report.end ≡ Refused line w
+        → IsUnrefused script report.records → ⊥ }
+    ensures none { (script : Script) (records : List Record) → script.statements ≡ [] → IsUnrefused script records }
 {}
