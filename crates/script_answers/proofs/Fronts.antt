@@ -1,6 +1,6 @@
 -- Fronts of the records of a report that answers a script.
-use Rattle.std.proofs.Common.{ℕ, ◌≡◌, ◌⊎◌, ◌≤◌, ◌<◌, List, [], ◌∷◌, ◌++◌, inl, inr, refl, sym, ap, ◌∙◌, subst, append_assoc, append-nil, arith}
-use Rattle.std.specs.Prelude.{⊤, Contains}
+use Rattle.std.proofs.Common.{ℕ, ◌≡◌, ◌⊎◌, List, [], ◌∷◌, ◌++◌, inl, inr, refl, sym, ap, ◌∙◌, subst, append-nil, arith}
+use Rattle.std.specs.Prelude.{Contains}
 use Rattle.quiver_paths.proofs.ListLemmas.{Contains-head, Contains-behind, Contains-nil}
 use Rattle.script_types.specs.declared.Script.{Script}
 use Rattle.script_types.specs.declared.Statement.{Statement}
@@ -10,8 +10,7 @@ use Rattle.report_types.specs.declared.reports.Why.{Why}
 use Rattle.report_types.specs.declared.reports.Why.TheVariants as why
 use Rattle.report_types.specs.declared.reports.End.{End}
 use Rattle.report_types.specs.declared.reports.End.TheVariants.{Done, Refused}
-use Rattle.script_answers.specs.Taken.{IsTaken, IsRefused}
-use Rattle.script_answers.specs.Answers.{Stage, setting_at, behind, Makes, begun, next, RefusesNext, Ends, EndsAtBasis, IsWhole, AnswersScript, IsNext, taken, refused, IsPartOfNext, HasBegun, BeginsToAnswer, HasFewPaths, IsUnrefused, RefusesStatement}
+use Rattle.script_answers.specs.Answers.{Stage, Makes, begun, next, RefusesNext, Ends, EndsAtBasis, IsWhole, AnswersScript, IsNext, taken, refused, HasBegun, BeginsToAnswer, HasFewPaths, IsUnrefused, RefusesStatement}
 
 -- one list in two ways as two behind one another: one of the first parts is a front of the other
 pub cuts : {A : Type 0} (a b c d : List A) → a ++ b ≡ c ++ d → ((m : List A) × (a ≡ c ++ m) × (d ≡ m ++ b)) ⊎ ((m : List A) × (c ≡ a ++ m) × (b ≡ m ++ d))
@@ -21,8 +20,8 @@ cuts (x ∷ a) b (y ∷ c) d same =
     let heads : x ≡ y = cc in
     let tails : a ++ b ≡ c ++ d = cc in
     elim (cuts a b c d tails) [
-    | inl found ↦ inl (found.0, (let e : a ≡ c ++ found.0 = found.1 in cc), found.2)
-    | inr found ↦ inr (found.0, (let e : c ≡ a ++ found.0 = found.1 in cc), found.2)
+      | inl found ↦ inl (found.0, (let e : a ≡ c ++ found.0 = found.1 in cc), found.2)
+      | inr found ↦ inr (found.0, (let e : c ≡ a ++ found.0 = found.1 in cc), found.2)
     ]
 
 longer : {A : Type 0} (r x y : A) (front rest : List A) → r ∷ [] ≡ x ∷ (y ∷ (front ++ rest)) → ⊥

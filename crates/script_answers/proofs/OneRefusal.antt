@@ -1,5 +1,5 @@
 -- Behind given records a statement is refused for one reason.
-use Rattle.std.proofs.Common.{Option, ℕ, zero, suc, ◌≡◌, ◌≤◌, ◌⊎◌, List, [], ◌∷◌, Some, None, inl, inr, refl, sym, ap, ◌∙◌, subst, arith}
+use Rattle.std.proofs.Common.{Option, ℕ, zero, suc, ◌≡◌, ◌⊎◌, List, [], ◌∷◌, Some, None, inl, inr, refl, sym, ap, ◌∙◌, subst, arith}
 use Rattle.linear_algebra.proofs.Solving.{right_inverse_cancels}
 use Rattle.path_algebra.specs.Allowed.{IsAllowed}
 use Rattle.representations.specs.Quiver.{Quiver}
@@ -8,7 +8,6 @@ use Rattle.representations.specs.Submodule.{sub_rep}
 use Rattle.representations.proofs.RepEqual.{Rep-eq}
 use Rattle.linear_algebra.specs.Field.{Gf}
 use Rattle.linear_algebra.specs.Matrix.{Mat}
-use Rattle.projectives.specs.Words.{Words}
 use Rattle.projectives.specs.Canonical.{canonical_vertices}
 use Rattle.module_types.specs.declared.Module.{Module}
 use Rattle.module_types.specs.declared.TermRows.{TermRows}
@@ -30,7 +29,7 @@ use Rattle.report_types.proofs.VerdictLaws.{words_of}
 use Rattle.script_answers.specs.Settings.{Setting, number_of, module_of}
 use Rattle.script_answers.specs.Refusals.{projectives_dim}
 use Rattle.script_answers.specs.Records.{ClaimsResolution, IsDecomposition}
-use Rattle.script_answers.specs.LateRefusals.{terms_of, IsLargeTerm, StopsBefore, StopsAtTerm, DualStopsAtTerm, PresentationShows, DualPresentationShows, ExtensionStops, IsRefusal, SequenceShows, Shows, IsDecomposable}
+use Rattle.script_answers.specs.LateRefusals.{terms_of, StopsBefore, StopsAtTerm, DualStopsAtTerm, PresentationShows, DualPresentationShows, ExtensionStops, IsRefusal, SequenceShows, Shows, IsDecomposable}
 use Rattle.script_answers.specs.Taken.{IsRefused, at_once, shown}
 
 not_free : (w : Why) → None ≡ Some w → ⊥

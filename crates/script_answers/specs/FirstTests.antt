@@ -1,8 +1,7 @@
 -- Tests that are tried in order; the first that fails refuses.
-use Rattle.std.specs.Prelude.{ℕ, zero, suc, Bool, true, false, leb, nat_eq, ◌&&◌, not, List, [], ◌∷◌, Option, Some, None}
+use Rattle.std.specs.Prelude.{ℕ, Bool, true, false, leb, nat_eq, ◌&&◌, not, List, [], ◌∷◌, Option, Some, None}
 use Rattle.std.specs.List.{list_any}
 use Rattle.std.specs.Cmp.Lexicographic.{pointwise}
-use Rattle.quiver_paths.specs.declared.Arrow.{Arrow}
 use Rattle.quiver_paths.specs.declared.names.Reference.{Reference}
 use Rattle.quiver_paths.specs.declared.names.Suffix.TheVariants as suffix
 use Rattle.module_types.specs.declared.Side.{Side}

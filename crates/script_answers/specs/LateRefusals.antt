@@ -15,7 +15,7 @@ use Rattle.claim_conditions.specs.ResolutionConditions.{OfCovered}
 use Rattle.claim_conditions.specs.Translates.{presentation_of, transposed_term}
 use Rattle.claim_conditions.specs.Locals.{LocalHolds}
 use Rattle.script_types.specs.declared.StatementKind.{StatementKind}
-use Rattle.script_types.specs.declared.StatementKind.TheVariants.{Rep, Std, Sum, Map, Kernel, Cokernel, Radical, Dual, Hom, Resolve, Ext, Decompose, Transpose, Tau, Taui, Ars}
+use Rattle.script_types.specs.declared.StatementKind.TheVariants.{Resolve, Ext, Transpose, Tau, Taui, Ars}
 use Rattle.report_types.specs.declared.claims.Record.{Record}
 use Rattle.report_types.specs.declared.reports.Why.{Why}
 use Rattle.report_types.specs.declared.reports.Why.TheVariants as why

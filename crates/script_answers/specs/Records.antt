@@ -180,7 +180,7 @@ TakesParts at a whole before parts (r ∷ []) = IsSumRecord at a whole parts (mo
 TakesParts at a whole before parts (hom ∷ (loc ∷ rest)) =
     IsPart at before hom loc
     × TakesParts at a whole (before ++ hom ∷ (loc ∷ []))
-      (parts ++ record { «module» = next_module at + length (modules_of before); local = next_claim at + length before + 1 } ∷ []) rest
+    (parts ++ record { «module» = next_module at + length (modules_of before); local = next_claim at + length before + 1 } ∷ []) rest
 
 -- all records of a decomposition of module a
 abbrev pub IsDecomposition : Setting → ℕ → Module → List Record → Type 0

@@ -1,8 +1,7 @@
 -- Refusals of a statement that no record shows: tests in their order, of which the first that fails refuses.
-use Rattle.std.specs.Prelude.{ℕ, zero, ◌+◌, nat_eq, ◌&&◌, not, List, [], ◌∷◌, length, position, Option, Some, None}
+use Rattle.std.specs.Prelude.{ℕ, zero, ◌+◌, nat_eq, ◌&&◌, not, List, [], ◌∷◌, length, position, Option}
 use Rattle.std.specs.Cmp.Lexicographic.{pointwise}
 use Rattle.linear_algebra.specs.BlockFamilies.{total}
-use Rattle.quiver_paths.specs.declared.Path.{Path}
 use Rattle.quiver_paths.specs.declared.names.Reference.{Reference}
 use Rattle.quiver_paths.specs.Quiver.{vertex_count}
 use Rattle.path_algebra.specs.declared.Header.{Header}
@@ -63,7 +62,7 @@ dual_written h m = dual_of h.field (algebra_at m.side h).quiver m
 abbrev pub rep_shape : Header → List ℕ → List AtLine → Option Why
 rep_shape h dims lines =
     unless (nat_eq (length dims) (vertex_count h.quiver) && all_different (line_names lines)
-        && lines_fit (arrow_names h) (rows_from h dims) (columns_to h dims) lines) why.Shape
+    && lines_fit (arrow_names h) (rows_from h dims) (columns_to h dims) lines) why.Shape
 
 abbrev pub map_shape : Header → Module → Module → List AtLine → Option Why
 map_shape h a b lines = unless (all_different (line_names lines) && lines_fit (vertex_names h) (dim_of h a) (dim_of h b) lines) why.Shape

@@ -1,5 +1,5 @@
 -- The records that each kind of statement takes, and the names that it binds.
-use Rattle.std.specs.Prelude.{ℕ, suc, ◌+◌, ◌-◌, List, [], ◌∷◌, length}
+use Rattle.std.specs.Prelude.{suc, ◌+◌, ◌-◌, List, [], ◌∷◌, length}
 use Rattle.path_algebra.specs.declared.Header.{Header}
 use Rattle.module_types.specs.declared.Module.{Module}
 use Rattle.module_types.specs.Algebras.{algebra_at}

@@ -3,7 +3,6 @@ use Rattle.std.specs.Prelude.{ℕ, zero, suc, ◌+◌, Bool, true, nat_eq, nat_l
 use Rattle.std.specs.List.{range_with_len}
 use Rattle.linear_algebra.specs.Field.{Gf, mul}
 use Rattle.linear_algebra.specs.Matrix.{Mat, ◌·◌}
-use Rattle.fp_linear.specs.Matrix.{PlainMatrix}
 use Rattle.quiver_paths.specs.declared.Path.{Path}
 use Rattle.quiver_paths.specs.Path.{path_length}
 use Rattle.quiver_paths.specs.PathList.{paths_of_length}

@@ -4,11 +4,18 @@
 #[derive(Clone, Copy, Debug, Drop, PartialEq, Eq)]
 pub enum Bound {
     /// A module.
-    Whole { module: u32 },
+    Whole {
+        module: u32,
+    },
     /// A map.
-    Arrow { map: u32 },
+    Arrow {
+        map: u32,
+    },
     /// A module, and as `.map` a map that belongs to it.
-    WithMap { module: u32, map: u32 },
+    WithMap {
+        module: u32,
+        map: u32,
+    },
     /// A direct sum; as `.1`, `.2` and so on its parts, so many, which are numbered from `first` on; as `.map` the map from it, and as `.inv` the map to it,
     /// which has the next number.
     Parts {
