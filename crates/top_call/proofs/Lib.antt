@@ -1,3 +1,4 @@
 pub mod OutcomeLemmas
-pub mod ExpectedLemmas
 pub mod RunLemmas
+pub mod ExpectedLemmas
+pub mod WholeRuns
