@@ -1,6 +1,6 @@
 -- The first claim of a report: its numbers and shapes, and its conditions.
-use Rattle.std.proofs.Common.{ℕ, zero, suc, ◌≡◌, ◌<◌, ◌≤◌, List, [], ◌∷◌, Some, None, length, refl, sym, ap, ◌∙◌, subst, arith}
-use Rattle.std.specs.Prelude.{Option, All, ◌++◌, take, slice_index_or}
+use Rattle.std.proofs.Common.{ℕ, zero, suc, ◌≡◌, ◌<◌, List, [], ◌∷◌, Some, length, refl, sym, ap, subst, arith}
+use Rattle.std.specs.Prelude.{◌++◌, take, slice_index_or}
 use Rattle.std.proofs.lemmas.List.Elements.{All-weaker}
 use Rattle.quiver_paths.specs.Path.{IsPath}
 use Rattle.path_algebra.specs.Words.{IsShortPath}
@@ -12,9 +12,7 @@ use Rattle.path_algebra.specs.declared.rules.Step.{Step}
 use Rattle.path_algebra.specs.declared.rules.BasisFault.{BasisFault}
 use Rattle.path_algebra.specs.declared.rules.BasisFault.TheVariants as fault
 use Rattle.path_algebra.specs.BasisClauses.{IsBasisClaim, IsFirstFault}
-use Rattle.claim_conditions.specs.declared.Clause.{Clause}
 use Rattle.claim_conditions.specs.Conditions.{IsFirstFailing}
-use Rattle.claim_conditions.specs.Modules.{Sides}
 use Rattle.report_types.specs.declared.claims.Claim.{Claim}
 use Rattle.report_types.specs.declared.claims.Claim.TheVariants.{Basis}
 use Rattle.report_types.specs.declared.claims.Record.{Record}
@@ -22,7 +20,7 @@ use Rattle.report_types.specs.declared.reports.Report.{Report}
 use Rattle.report_types.specs.BasisBlocks.{IsBasisBlock, IsWrittenRule}
 use Rattle.report_types.specs.BasisClaims.{basis_conditions}
 use Rattle.report_types.specs.ClaimBlocks.{IsClaimBlock}
-use Rattle.report_types.specs.Conditions.{conditions, claim_conditions, before_claim, conditions_of}
+use Rattle.report_types.specs.Conditions.{conditions, claim_conditions, before_claim}
 use Rattle.report_types.specs.Lawful.{IsRecord, IsReport, MayBeRecord}
 use Rattle.report_types.specs.Numbers.{record_of}
 use Rattle.report_types.specs.Verdicts.{sides_by, ConditionsHold, IsFirstFailure}

@@ -80,5 +80,5 @@ pub right_record_of : (script : Script) (r : Record) (words : List Path) (steps 
     → length steps < 2 ^ 32 → length rules ≤ 4096 → r.line ≡ script.basis_line → r.modules ≡ [] → r.maps ≡ [] → r.claim ≡ Basis words steps rules → IsRightRecord script r
 right_record_of script r words steps rules lawful few claim meets few_steps few_rules line modules maps claimed =
     let same : r ≡ record { line = script.basis_line; modules = []; maps = []; claim = Basis words steps rules } =
-        λ i. record { line = line i; modules = modules i; maps = maps i; claim = claimed i } in
+    λ i. record { line = line i; modules = modules i; maps = maps i; claim = claimed i } in
     subst (IsRightRecord script) (sym same) (right_record script words steps rules lawful few claim meets few_steps few_rules)

@@ -1,12 +1,11 @@
 -- Reports that answer a script.
 use Rattle.std.proofs.Common.{ℕ, zero, suc, ◌≡◌, ◌<◌, ◌≤◌, ◌^◌, ◌-◌, List, [], ◌∷◌, ◌++◌, length, Some, None, inl, inr, refl, sym, ap, ◌∙◌, subst, append-nil, arith}
-use Rattle.std.specs.Prelude.{⊤, Option, take, All}
+use Rattle.std.specs.Prelude.{take, All}
 use Rattle.std.proofs.Math.Nat.{min-le_right}
 use Rattle.std.proofs.lemmas.List.Elements.{All-head}
 use Rattle.quiver_paths.specs.PathList.{path_count}
 use Rattle.path_algebra.specs.declared.Header.{Header}
 use Rattle.path_algebra.specs.Allowed.{IsAllowed}
-use Rattle.claim_conditions.specs.Modules.{Sides}
 use Rattle.script_types.specs.declared.Script.{Script}
 use Rattle.script_types.specs.declared.Statement.{Statement}
 use Rattle.script_types.specs.declared.StatementKind.{StatementKind}
@@ -24,16 +23,14 @@ use Rattle.report_types.specs.Conditions.{conditions}
 use Rattle.report_types.specs.Holding.{MayHold}
 use Rattle.report_types.specs.Verdicts.{sides_by, Holds, ConditionsHold}
 use Rattle.claim_conditions.specs.Conditions.{AllHold}
-use Rattle.module_types.specs.declared.Module.{Module}
-use Rattle.module_types.specs.declared.Map.{Map as MapView}
 use Rattle.report_types.proofs.Suffices.{suffices}
 use Rattle.script_answers.specs.Settings.{Setting}
 use Rattle.script_answers.specs.Refusals.{refusal}
 use Rattle.script_answers.specs.Taken.{at_once}
-use Rattle.script_answers.specs.Answers.{setting_at, begun, IsTooMany, AnswersScript, BeginsToAnswer}
+use Rattle.script_answers.specs.Answers.{setting_at, begun, IsTooMany, AnswersScript}
 use Rattle.script_answers.proofs.Fronts.{fronts_begin}
 use Rattle.script_run.specs.Ends.{EndsBehindBasis}
-use Rattle.script_run.specs.Records.{IsRightRecord, alone}
+use Rattle.script_run.specs.Records.{IsRightRecord}
 use Rattle.script_run.specs.Runs.{AreRecords, IsRightReport, IsRightBeginning}
 
 -- where the conditions hold, the claims do
@@ -145,8 +142,12 @@ module _ (script : Script) (first : Record) (lawful : IsLawful script) (right : 
   few_items items none = let e : length (items ++ []) ≡ 0 = ap length (append-nil items ∙ none) in omega arith
 
   first_records : AreRecords script.header (first ∷ [])
-  first_records = record { few = omega arith; few_modules = few_items first.modules right.answers.prints.modules;
-    few_maps = few_items first.maps right.answers.prints.maps; each = first_each }
+  first_records = record {
+    few = omega arith;
+    few_modules = few_items first.modules right.answers.prints.modules;
+    few_maps = few_items first.maps right.answers.prints.maps;
+    each = first_each;
+  }
 
   -- the end of a script behind its basis is one that a report may have
   full_end : (left : List Statement) (e : End) → All (λ (s : Statement). script.basis_line < s.line) left → All (λ (s : Statement). s.line ≤ 4194304) left → EndsBehindBasis left e

@@ -1,5 +1,5 @@
 -- How a run ends behind the record of its basis.
-use Rattle.std.specs.Prelude.{⊤, ◌≡◌, List, [], ◌∷◌}
+use Rattle.std.specs.Prelude.{◌≡◌, List, [], ◌∷◌}
 use Rattle.script_types.specs.declared.Statement.{Statement}
 use Rattle.report_types.specs.declared.reports.End.{End}
 use Rattle.report_types.specs.declared.reports.End.TheVariants.{Done, Refused}

@@ -40,7 +40,7 @@ module _ (words : List (List ℕ)) (left left' taken taken' : Option (List ℕ))
       let i : is.input ≡ input = read_all_of input is.input left left' tells is.read in
       subst (λ n. Begins n input text) m (subst (λ r. Begins is.mode r text) i is.begun)
 
-  no_records : Report
+  abbrev no_records : Report
   no_records = record { header = script.header; records = []; end = end.Done }
 
   pub runs_whole : (o : Outcome) (a b c d : ℕ) → Writes (IsText words left left') (IsBegun words left left') (IsStopped words left left') o taken taken' → HasCause o a b c d
