@@ -3,7 +3,7 @@ mod WordLists
 pub mod PathReading
 pub mod StepReading
 pub mod RuleReading
-pub mod EndReading
+pub mod NumberReading
 pub mod FittingLines
 pub mod Clear
 pub mod DecidedHeader

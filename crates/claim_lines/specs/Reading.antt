@@ -11,7 +11,7 @@ use Rattle.path_algebra.specs.declared.Header.{Header}
 use Rattle.path_algebra.specs.declared.rules.Rule.{Rule}
 use Rattle.path_algebra.specs.Derivations.{IsNumber}
 use Rattle.header_text.specs.Spelling.{path_text, term_text}
-use Rattle.claim_types.specs.Limits.{length_limit, IsLine}
+use Rattle.report_types.specs.Limits.{length_limit, IsLine}
 use Rattle.claim_lines.specs.Spelling.{tail_form}
 use Rattle.claim_lines.specs.Items.{IsCount, counted}
 
@@ -76,8 +76,3 @@ pub record HasLimits (h : Header) (rule : Rule) : Type 0 where
   pub tip_limit : path_length rule.tip ≤ length_limit
   pub descending : AllPairs (λ (a b : Term). IsSmaller b.path a.path) rule.tail.terms
   pub short : All (λ (t : Term). path_length t.path < h.bound) rule.tail.terms
-
--- a line of a script, and a number that fits 64 bits
-pub record IsLineAndCount (line count : ℕ) : Type 0 where
-  pub is_line : IsLine line
-  pub fits : count < 2 ^ 64

@@ -2,7 +2,7 @@
 #![tactic(auto)]
 
 mod counts;
-mod ends;
+mod heads;
 mod paths;
 mod rules;
 mod steps;
@@ -10,9 +10,9 @@ mod words;
 mod writing;
 
 pub use counts::only_count;
-pub use ends::{First, read_end, read_first};
+pub use heads::{Counts, Head};
 pub use paths::read_word;
 pub use rules::read_rule;
 pub use steps::read_step;
 pub use words::Words;
-pub use writing::{push_basis_line, push_count, push_end, push_rule, push_step, push_word};
+pub use writing::{push_count, push_rule, push_step, push_word};
