@@ -224,7 +224,10 @@ fn take_claim(tokens: &mut Parts<'_>, k: u32) -> bool
     let Some(number) = tokens.take_numeral(k as u64) else {
         return false;
     };
-    number == k as u64
+    if number != k as u64 {
+        return false;
+    }
+    true
 }
 
 /// Reads the tokens of the first line of a claim, behind so many claims, where the report has so many modules and maps up to here: the line of the script,
