@@ -1,5 +1,5 @@
 -- What the readers of pieces of a line answer.
-use Rattle.std.specs.Prelude.{ℕ, ◌≡◌, ◌≢◌, ◌<◌, ◌≤◌, ◌^◌, Bool, true, false, List, [], ◌∷◌, ◌++◌, codes, All, AllPairs, decimal, Some, None}
+use Rattle.std.specs.Prelude.{ℕ, ⊤, ◌≡◌, ◌≢◌, ◌<◌, ◌≤◌, ◌^◌, Bool, true, false, List, [], ◌∷◌, ◌++◌, codes, All, AllPairs, decimal, Some, None}
 use Rattle.std.specs.declared.option.Option.{Option}
 use Rattle.linear_algebra.specs.Field.{order}
 use Rattle.quiver_paths.specs.declared.Quiver.{Quiver}
@@ -12,6 +12,8 @@ use Rattle.path_algebra.specs.declared.rules.Rule.{Rule}
 use Rattle.path_algebra.specs.Derivations.{IsNumber}
 use Rattle.header_text.specs.Spelling.{path_text, term_text}
 use Rattle.report_types.specs.Limits.{length_limit, IsLine}
+use Rattle.claim_lines.specs.declared.heads.Head.{Head}
+use Rattle.claim_lines.specs.declared.heads.Head.TheVariants as head
 use Rattle.claim_lines.specs.Spelling.{tail_form}
 use Rattle.claim_lines.specs.Items.{IsCount, counted}
 
@@ -87,3 +89,11 @@ pub record IsNoFirstWord (w : List ℕ) : Type 0 where
   pub kernel : w ≢ codes "kernel"
   pub cokernel : w ≢ codes "cokernel"
   pub radical : w ≢ codes "radical"
+
+-- extensions, a decomposition, a translate or an almost split sequence
+abbrev pub IsLong : Head → Type 0
+IsLong (head.Ext n a b count c) = ⊤
+IsLong (head.Decomposition a s f g parts) = ⊤
+IsLong (head.Translate which n a c) = ⊤
+IsLong (head.AlmostSplit n e a f g c l) = ⊤
+IsLong x = ⊥

@@ -3,6 +3,8 @@
 
 mod claims;
 mod counts;
+mod end_writing;
+mod head_writing;
 mod heads;
 mod numbers;
 mod object_heads;
@@ -15,6 +17,8 @@ mod writing;
 
 pub use claims::read_head;
 pub use counts::only_count;
+pub use end_writing::push_end;
+pub use head_writing::push_claim_line;
 pub use heads::{Counts, Head};
 pub use paths::read_word;
 pub use rules::read_rule;
