@@ -6,6 +6,8 @@ pub mod RuleReading
 pub mod NumberReading
 pub mod FittingLines
 pub mod Tokens
+pub mod ReferenceReading
+pub mod EndReading
 pub mod SpacedTokens
 pub mod HeadReading
 pub mod DecidedClaims

@@ -111,12 +111,7 @@ fn push_why(out: &mut Vec<u8>, header: &Header, why: &Why) -> Result<(), AllocEr
     }
 }
 
-fn push_refused(
-    out: &mut Vec<u8>,
-    header: &Header,
-    line: u32,
-    why: &Why,
-) -> Result<(), AllocError>
+fn push_refused(out: &mut Vec<u8>, header: &Header, line: u32, why: &Why) -> Result<(), AllocError>
     ensures { OnOk result (out.new.items ≡ out.old.items ++ strict_line (codes "refused" ∷ decimal line ∷ why_form header.now why.now)) }
 {
     out.extend_from_slice(b"refused")?;

@@ -78,7 +78,12 @@ fn push_translate(
     match which {
         Translation::Tau => push_using(out, b"tau", &[translate, a], &[resolution]),
         Translation::Transpose => push_using(out, b"transpose", &[translate, a], &[resolution]),
-        Translation::Taui { dual } => push_using(out, b"taui", &[translate, a, dual], &[resolution]),
+        Translation::Taui { dual } => push_using(
+            out,
+            b"taui",
+            &[translate, a, dual],
+            &[resolution],
+        ),
     }
 }
 
