@@ -130,10 +130,6 @@ pub no_refused : (h : Header) (claims : ℕ) (ts : List (List ℕ)) → ((x : �
 no_refused h claims ts none Done is e = end_not_refused (sym (head_is _ _ _ _ e))
 no_refused h claims ts none (Refused line w) is e = none (line, w) is (tail_is _ _ _ _ e)
 
-pub no_last : (h : Header) (claims : ℕ) (w : List ℕ) (ts : List (List ℕ)) → w ≢ codes "end" → w ≢ codes "refused" → (x : End) → IsFullEnd h x → w ∷ ts ≡ end_line h claims x → ⊥
-no_last h claims w ts a b Done is e = a (head_is _ _ _ _ e)
-no_last h claims w ts a b (Refused line y) is e = b (head_is _ _ _ _ e)
-
 -- too many paths
 pub record IsLimit (w : Why) : Type 0 where
   pub count : ℕ
