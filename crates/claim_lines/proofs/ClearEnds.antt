@@ -1,5 +1,5 @@
 -- No token of a last line has a space or a line feed.
-use Rattle.std.proofs.Common.{◌≡◌, ◌≢◌, ℕ, ◌<◌, ◌≤◌, ◌^◌, zero, suc, eqb, false, List, [], ◌∷◌, ◌++◌, length, codes, decimal, refl, arith, lit<, lit≤}
+use Rattle.std.proofs.Common.{ℕ, ◌<◌, ◌^◌, zero, suc, List, [], ◌∷◌, ◌++◌, length, codes, decimal, refl, lit≤}
 use Rattle.quiver_paths.specs.declared.names.Suffix.{Suffix}
 use Rattle.quiver_paths.specs.declared.names.Suffix.TheVariants as suffix
 use Rattle.path_algebra.specs.declared.Header.{Header}

@@ -1,13 +1,10 @@
 -- Last lines: what fits has one spelling, whether some tokens spell one is decided, and no token has a space or a line feed.
-use Rattle.std.proofs.Common.{◌≡◌, ◌≢◌, ℕ, ◌+◌, ◌<◌, ◌≤◌, ◌^◌, zero, suc, List, [], ◌∷◌, drop, length, codes, decimal, ◌⊎◌, inl, inr, refl, sym, ap, ◌∙◌, subst, arith, lit<, lit≤}
+use Rattle.std.proofs.Common.{◌≡◌, ℕ, ◌+◌, ◌<◌, ◌^◌, zero, suc, List, [], ◌∷◌, drop, length, codes, ◌⊎◌, inl, inr, refl, sym, ap, ◌∙◌, arith}
 use Rattle.quiver_paths.specs.declared.Path.{Path}
 use Rattle.quiver_paths.specs.declared.names.Suffix.{Suffix}
 use Rattle.quiver_paths.specs.declared.names.Suffix.TheVariants as suffix
-use Rattle.quiver_paths.specs.Name.{IsName, is_name_byte}
 use Rattle.quiver_paths.specs.Path.{path_length}
 use Rattle.quiver_paths.specs.Quiver.{arrow_count}
-use Rattle.std.specs.Prelude.{IsTrue}
-use Rattle.path_algebra.specs.Allowed.{IsArrowName}
 use Rattle.path_algebra.specs.declared.Header.{Header}
 use Rattle.header_text.specs.Named.{IsNamed}
 use Rattle.header_text.proofs.Uniqueness.{decimal_one}
@@ -16,8 +13,8 @@ use Rattle.report_types.specs.declared.reports.End.TheVariants.{Done, Refused}
 use Rattle.report_types.specs.declared.reports.Why.{Why}
 use Rattle.report_types.specs.declared.reports.Why.TheVariants as why
 use Rattle.report_types.specs.Ends.{IsToken, IsWhy, IsBoundPath, IsFullEnd, IsEmptyEnd}
-use Rattle.report_types.specs.Limits.{IsLine, resolution_limit, part_limit}
-use Rattle.deciding.proofs.Deciding.{Decided, both, like, three, below, at_most, tested, same_numbers, same_tokens, of_each, IsListed, found, just, either, images, numbers_below}
+use Rattle.report_types.specs.Limits.{resolution_limit, part_limit}
+use Rattle.deciding.proofs.Deciding.{Decided, both, like, below, at_most, same_tokens, IsListed, found, just, either, images, numbers_below}
 use Rattle.deciding.proofs.DecidedPaths.{number_decided, path_decided, IsPathBelow, paths_listed}
 use Rattle.claim_lines.specs.Spelling.{why_form, end_line}
 use Rattle.claim_lines.specs.Items.{FitsEnd}
@@ -25,7 +22,7 @@ use Rattle.claim_lines.proofs.Tokens.{number, value_is, line_small}
 use Rattle.claim_lines.proofs.NumberReading.{head_is, tail_is}
 use Rattle.claim_lines.proofs.DecidedHeader.{name_decided, arrow_name_decided}
 use Rattle.claim_lines.proofs.DecidedClaims.{by_candidate, line_decided}
-use Rattle.claim_lines.proofs.EndReading.{why_from, no_path, arrow_in, path_in, why_found, one_why, limit_is, IsLimit, no_done}
+use Rattle.claim_lines.proofs.EndReading.{why_from, no_path, why_found, one_why, limit_is, IsLimit}
 
 -- ---- one spelling
 

@@ -1,18 +1,16 @@
 -- Claims' first lines: what a line says is found from its tokens, so different ones have different spellings; and what their readers conclude.
-use Rattle.std.proofs.Common.{◌≡◌, ◌≢◌, ℕ, ◌+◌, ◌<◌, ◌≤◌, ◌^◌, List, [], ◌∷◌, ◌++◌, drop, cond, codes, decimal, refl, sym, ap, ◌∙◌, subst, arith, lit<, lit≤}
+use Rattle.std.proofs.Common.{◌≡◌, ◌≢◌, ℕ, ◌<◌, ◌^◌, List, [], ◌∷◌, ◌++◌, drop, cond, codes, decimal, refl, sym, ap, ◌∙◌, subst, arith, lit≤}
 use Rattle.std.specs.Prelude.{All}
 use Rattle.std.proofs.lemmas.List.Elements.{All-head, All-tail}
-use Rattle.path_algebra.specs.Derivations.{IsNumber}
 use Rattle.report_types.specs.declared.claims.PartClaim.{PartClaim}
 use Rattle.report_types.specs.declared.claims.Translation.{Translation}
 use Rattle.report_types.specs.declared.claims.Translation.TheVariants.{Tau, Transpose, Taui}
-use Rattle.report_types.specs.Limits.{IsLine}
 use Rattle.claim_lines.specs.declared.heads.Head.{Head}
 use Rattle.claim_lines.specs.declared.heads.Head.TheVariants as head
-use Rattle.claim_lines.specs.Spelling.{parts_form, translate_form, head_form, claim_line}
-use Rattle.claim_lines.specs.Items.{ArePartNumbers, AreTranslateNumbers, AreNumbers, FitsClaim}
-use Rattle.claim_lines.proofs.Tokens.{value, value_is, is_same, token, number, small, number_is, few_is, line_small, one, two, three, four}
-use Rattle.claim_lines.proofs.NumberReading.{head_is, tail_is}
+use Rattle.claim_lines.specs.Spelling.{parts_form, translate_form, head_form}
+use Rattle.claim_lines.specs.Items.{ArePartNumbers, AreNumbers}
+use Rattle.claim_lines.proofs.Tokens.{value, is_same, token, number, number_is, few_is, one, two, three, four}
+use Rattle.claim_lines.proofs.NumberReading.{tail_is}
 
 -- ---- found from the tokens
 
