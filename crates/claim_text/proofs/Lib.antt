@@ -1,7 +1,8 @@
-pub mod WrittenBlocks
+pub mod MatrixBlocks
+pub mod OtherLines
+pub mod Runs
+pub mod ObjectLists
 pub mod TakenLines
-pub mod Reached
-pub mod SoundReading
-pub mod DecidedLines
-pub mod CompleteReading
-pub mod ReportLaws
+pub mod CompleteObjects
+pub mod CompleteBasis
+pub mod CompleteRecords
