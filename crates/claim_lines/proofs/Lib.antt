@@ -5,6 +5,8 @@ pub mod StepReading
 pub mod RuleReading
 pub mod NumberReading
 pub mod FittingLines
+pub mod Tokens
+pub mod HeadReading
 pub mod Clear
 pub mod DecidedHeader
 pub mod DecidedItems

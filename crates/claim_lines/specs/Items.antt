@@ -42,28 +42,28 @@ AreTranslateNumbers modules (Taui b) = IsNumber modules b
 
 -- the numbers on the first line of a claim, behind so many claims and with so many modules and maps in the report up to this one: those of modules, maps and
 -- earlier claims, the length of a resolution and the degree of extensions, whose resolution is longer by one, and how many rows follow
-abbrev pub AreNumbers : ℕ → Counts → Head → Type 0
-AreNumbers earlier counts head.Basis = ⊤
-AreNumbers earlier counts (head.Module m) = IsNumber counts.modules m
-AreNumbers earlier counts (head.Map f) = IsNumber counts.maps f
-AreNumbers earlier counts (head.Hom a b count) = IsNumber counts.modules a × IsNumber counts.modules b × (count ≤ unknown_limit)
-AreNumbers earlier counts (head.Kernel n f i) = IsNumber counts.modules n × IsNumber counts.maps f × IsNumber counts.maps i
-AreNumbers earlier counts (head.Cokernel n f p) = IsNumber counts.modules n × IsNumber counts.maps f × IsNumber counts.maps p
-AreNumbers earlier counts (head.Radical n a i) = IsNumber counts.modules n × IsNumber counts.modules a × IsNumber counts.maps i
-AreNumbers earlier counts (head.Resolution a n) = IsNumber counts.modules a × (n ≤ resolution_limit)
-AreNumbers earlier counts (head.Ext n a b count c) = (n < resolution_limit) × IsNumber counts.modules a × IsNumber counts.modules b × (count ≤ unknown_limit) × IsNumber earlier c
-AreNumbers earlier counts (head.Local m c) = IsNumber counts.modules m × IsNumber earlier c
-AreNumbers earlier counts (head.Decomposition a s f g parts) =
-    IsNumber counts.modules a × IsNumber counts.modules s × IsNumber counts.maps f × IsNumber counts.maps g × All (ArePartNumbers earlier counts.modules) parts
-AreNumbers earlier counts (head.Translate which n a c) = AreTranslateNumbers counts.modules which × IsNumber counts.modules n × IsNumber counts.modules a × IsNumber earlier c
-AreNumbers earlier counts (head.AlmostSplit n e a f g c l) =
-    IsNumber counts.modules n × IsNumber counts.modules e × IsNumber counts.modules a × IsNumber counts.maps f × IsNumber counts.maps g × IsNumber earlier c × IsNumber earlier l
+abbrev pub AreNumbers : (earlier modules maps : ℕ) → Head → Type 0
+AreNumbers earlier modules maps head.Basis = ⊤
+AreNumbers earlier modules maps (head.Module m) = IsNumber modules m
+AreNumbers earlier modules maps (head.Map f) = IsNumber maps f
+AreNumbers earlier modules maps (head.Hom a b count) = IsNumber modules a × IsNumber modules b × (count ≤ unknown_limit)
+AreNumbers earlier modules maps (head.Kernel n f i) = IsNumber modules n × IsNumber maps f × IsNumber maps i
+AreNumbers earlier modules maps (head.Cokernel n f p) = IsNumber modules n × IsNumber maps f × IsNumber maps p
+AreNumbers earlier modules maps (head.Radical n a i) = IsNumber modules n × IsNumber modules a × IsNumber maps i
+AreNumbers earlier modules maps (head.Resolution a n) = IsNumber modules a × (n ≤ resolution_limit)
+AreNumbers earlier modules maps (head.Ext n a b count c) = (n < resolution_limit) × IsNumber modules a × IsNumber modules b × (count ≤ unknown_limit) × IsNumber earlier c
+AreNumbers earlier modules maps (head.Local m c) = IsNumber modules m × IsNumber earlier c
+AreNumbers earlier modules maps (head.Decomposition a s f g parts) =
+    IsNumber modules a × IsNumber modules s × IsNumber maps f × IsNumber maps g × All (ArePartNumbers earlier modules) parts
+AreNumbers earlier modules maps (head.Translate which n a c) = AreTranslateNumbers modules which × IsNumber modules n × IsNumber modules a × IsNumber earlier c
+AreNumbers earlier modules maps (head.AlmostSplit n e a f g c l) =
+    IsNumber modules n × IsNumber modules e × IsNumber modules a × IsNumber maps f × IsNumber maps g × IsNumber earlier c × IsNumber earlier l
 
 -- the first line of a claim, behind so many
 pub record FitsClaim (earlier : ℕ) (counts : Counts) (x : ℕ × Head) : Type 0 where
   pub room : earlier + 1 < 2 ^ 32
   pub is_line : IsLine x.0
-  pub numbers : AreNumbers earlier counts x.1
+  pub numbers : AreNumbers earlier counts.modules counts.maps x.1
 
 -- the last line behind so many claims
 abbrev pub FitsEnd : Header → ℕ → End → Type 0

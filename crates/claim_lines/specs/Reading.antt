@@ -76,3 +76,14 @@ pub record HasLimits (h : Header) (rule : Rule) : Type 0 where
   pub tip_limit : path_length rule.tip ≤ length_limit
   pub descending : AllPairs (λ (a b : Term). IsSmaller b.path a.path) rule.tail.terms
   pub short : All (λ (t : Term). path_length t.path < h.bound) rule.tail.terms
+
+-- a word with which no claim on objects alone begins, and no decomposition
+pub record IsNoFirstWord (w : List ℕ) : Type 0 where
+  pub decomposition : w ≢ codes "decomposition"
+  pub basis : w ≢ codes "basis"
+  pub is_module : w ≢ codes "module"
+  pub is_map : w ≢ codes "map"
+  pub hom : w ≢ codes "hom"
+  pub kernel : w ≢ codes "kernel"
+  pub cokernel : w ≢ codes "cokernel"
+  pub radical : w ≢ codes "radical"

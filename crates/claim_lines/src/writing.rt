@@ -31,7 +31,11 @@ pub fn push_count(out: &mut Vec<u8>, word: &[u8], n: u64) -> Result<(), AllocErr
 }
 
 /// Adds a space and the name of an arrow.
-pub(crate) fn push_arrow_name(out: &mut Vec<u8>, quiver: &Quiver, arrow: u8) -> Result<(), AllocError>
+pub(crate) fn push_arrow_name(
+    out: &mut Vec<u8>,
+    quiver: &Quiver,
+    arrow: u8,
+) -> Result<(), AllocError>
     ensures { OnOk result (out.new.items ≡ out.old.items ++ 32 ∷ arrow_name quiver.now arrow) }
 {
     out.push(b' ')?;

@@ -6,28 +6,53 @@ use Rattle.quiver_paths.specs.declared.Quiver.{Quiver}
 use Rattle.path_algebra.specs.declared.Header.{Header}
 use Rattle.path_algebra.specs.declared.rules.Rule.{Rule}
 use Rattle.path_algebra.specs.declared.rules.Step.{Step}
-use Rattle.header_text.specs.Spelling.{header_lines, text_of, arrow_name, vertex_name}
-use Rattle.module_types.specs.declared.Module.{Module}
+use Rattle.header_text.specs.Spelling.{vertex_name, arrow_name, header_lines, text_of}
 use Rattle.module_types.specs.declared.Map.{Map}
-use Rattle.object_lines.specs.Spelling.{module_line, map_line, at_lines, row_line}
+use Rattle.module_types.specs.declared.Module.{Module}
+use Rattle.module_types.specs.declared.TermRows.{TermRows}
 use Rattle.report_types.specs.declared.claims.Claim.{Claim}
 use Rattle.report_types.specs.declared.claims.Claim.TheVariants as claim
 use Rattle.report_types.specs.declared.claims.Record.{Record}
 use Rattle.report_types.specs.declared.reports.Report.{Report}
 use Rattle.report_types.specs.Numbers.{modules_of, maps_of}
+use Rattle.object_lines.specs.Spelling.{module_line, map_line, at_lines, row_line, gen_line, phi_line, term_line, ideal_line, power_line, residue_line, left_line, middle_line}
 use Rattle.claim_lines.specs.declared.heads.Head.{Head}
 use Rattle.claim_lines.specs.declared.heads.Head.TheVariants as head
 use Rattle.claim_lines.specs.Spelling.{title_line, claim_line, words_line, steps_line, rules_line, word_line, step_line, rule_line, end_line}
 
+-- ---- the claim of a basis
+
+-- the lines of steps, of which the first has the number k
 abbrev pub step_lines : Quiver → ℕ → List Step → List (List (List ℕ))
 step_lines Q k [] = []
 step_lines Q k (s ∷ steps) = step_line Q k s ∷ step_lines Q (k + 1) steps
 
+-- the words, steps and rules of a basis
 abbrev pub block_lines : Quiver → List Path → List Step → List Rule → List (List (List ℕ))
 block_lines Q words steps rules = words_line (decimal (length words)) ∷ (map (word_line Q) words
     ++ (steps_line (decimal (length steps)) ∷ (step_lines Q 1 steps ++ (rules_line (decimal (length rules)) ∷ map (rule_line Q) rules))))
 
--- the first line of a claim, and those behind it
+-- ---- modules and maps
+
+-- matrices at the arrows, and at the vertices
+abbrev pub at_arrows : Header → List PlainMatrix → List (List (List ℕ))
+at_arrows h matrices = at_lines (arrow_name h.quiver) 0 matrices
+
+abbrev pub at_vertices : Header → List PlainMatrix → List (List (List ℕ))
+at_vertices h matrices = at_lines (vertex_name h.quiver) 0 matrices
+
+-- the lines of modules behind so many, and of maps
+abbrev pub module_lines : Header → ℕ → List Module → List (List (List ℕ))
+module_lines h before [] = []
+module_lines h before (m ∷ modules) = (module_line (before + 1) m.side m.dims ∷ at_arrows h m.matrices) ++ module_lines h (before + 1) modules
+
+abbrev pub map_lines : Header → ℕ → List Map → List (List (List ℕ))
+map_lines h before [] = []
+map_lines h before (f ∷ maps) = (map_line (before + 1) f.source f.target ∷ at_vertices h f.matrices) ++ map_lines h (before + 1) maps
+
+-- ---- claims
+
+-- the first line of a claim
 abbrev pub head_of : Claim → Head
 head_of (claim.Basis words steps rules) = head.Basis
 head_of (claim.Module m) = head.Module m
@@ -43,39 +68,62 @@ head_of (claim.Decomposition a s f g parts) = head.Decomposition a s f g parts
 head_of (claim.Translate which n a c rows) = head.Translate which n a c
 head_of (claim.AlmostSplit n e a f g c l phi left middle) = head.AlmostSplit n e a f g c l
 
+-- the terms of a resolution, of which the first has the number k: each with the rows of its generators
+abbrev pub term_lines : Quiver → ℕ → List TermRows → List (List (List ℕ))
+term_lines Q k [] = []
+term_lines Q k (t ∷ terms) = (term_line Q k t.vertices ∷ map gen_line t.images) ++ term_lines Q (k + 1) terms
+
+-- the lines behind the first
 abbrev pub claim_block : Header → Claim → List (List (List ℕ))
 claim_block h (claim.Basis words steps rules) = block_lines h.quiver words steps rules
+claim_block h (claim.Module m) = []
+claim_block h (claim.Map f) = []
 claim_block h (claim.Hom a b rows) = map row_line rows.rows
-claim_block h c = []
+claim_block h (claim.Kernel n f i) = []
+claim_block h (claim.Cokernel n f p) = []
+claim_block h (claim.Radical n a i) = []
+claim_block h (claim.Resolution a n terms) = term_lines h.quiver 0 terms
+claim_block h (claim.Ext n a b rows c) = map row_line rows.rows
+claim_block h (claim.Local m c ideal power residue) = ideal_line ideal.row_count ∷ (map row_line ideal.rows ++ (power_line power ∷ residue_line residue ∷ []))
+claim_block h (claim.Decomposition a s f g parts) = []
+claim_block h (claim.Translate which n a c rows) = at_vertices h rows
+claim_block h (claim.AlmostSplit n e a f g c l phi left middle) = phi_line phi ∷ left_line ∷ (at_vertices h left ++ (middle_line ∷ at_vertices h middle))
 
-abbrev pub module_lines : Header → ℕ → Module → List (List (List ℕ))
-module_lines h k m = module_line k m.side m.dims ∷ at_lines (arrow_name h.quiver) 0 m.matrices
+-- ---- records
 
-abbrev pub map_lines : Header → ℕ → Map → List (List (List ℕ))
-map_lines h k f = map_line k f.source f.target ∷ at_lines (vertex_name h.quiver) 0 f.matrices
-
--- of modules and maps of which the first has the number k
-abbrev pub modules_lines : Header → ℕ → List Module → List (List (List ℕ))
-modules_lines h k [] = []
-modules_lines h k (m ∷ rest) = module_lines h k m ++ modules_lines h (k + 1) rest
-
-abbrev pub maps_lines : Header → ℕ → List Map → List (List (List ℕ))
-maps_lines h k [] = []
-maps_lines h k (f ∷ rest) = map_lines h k f ++ maps_lines h (k + 1) rest
-
-abbrev pub lines_of_claim : Header → ℕ → ℕ → Claim → List (List (List ℕ))
-lines_of_claim h k line c = claim_line k line (head_of c) ∷ claim_block h c
-
--- a record behind so many modules, maps and claims
+-- the lines of a record, behind so many modules, maps and claims
 abbrev pub record_lines : Header → (modules maps claims : ℕ) → Record → List (List (List ℕ))
-record_lines h modules maps claims r = modules_lines h (modules + 1) r.modules ++ (maps_lines h (maps + 1) r.maps ++ lines_of_claim h (claims + 1) r.line r.claim)
+record_lines h modules maps claims r =
+    module_lines h modules r.modules ++ (map_lines h maps r.maps ++ (claim_line (claims + 1) r.line (head_of r.claim) ∷ claim_block h r.claim))
 
+-- the lines of records, behind so many modules, maps and claims
 abbrev pub records_lines : Header → (modules maps claims : ℕ) → List Record → List (List (List ℕ))
 records_lines h modules maps claims [] = []
 records_lines h modules maps claims (r ∷ records) = record_lines h modules maps claims r ++ records_lines h (modules + length r.modules) (maps + length r.maps) (claims + 1) records
 
+-- ---- the whole
+
 abbrev pub report_lines : Report → List (List (List ℕ))
 report_lines r = title_line ∷ (header_lines r.header ++ (records_lines r.header 0 0 0 r.records ++ end_line r.header (length r.records) r.end ∷ []))
 
+-- the report as bytes
 abbrev pub report_text : Report → List ℕ
 report_text r = text_of (report_lines r)
+
+-- what is written before the first record, of one record behind some records, and behind the last
+abbrev pub front_text : Report → List ℕ
+front_text r = text_of (title_line ∷ header_lines r.header)
+
+abbrev pub record_text : Header → (modules maps claims : ℕ) → Record → List ℕ
+record_text h modules maps claims r = text_of (record_lines h modules maps claims r)
+
+abbrev pub text_behind : Header → List Record → Record → List ℕ
+text_behind h before r = record_text h (length (modules_of before)) (length (maps_of before)) (length before) r
+
+-- the texts of records, behind so many modules, maps and claims
+abbrev pub records_text : Header → (modules maps claims : ℕ) → List Record → List ℕ
+records_text h modules maps claims [] = []
+records_text h modules maps claims (r ∷ records) = record_text h modules maps claims r ++ records_text h (modules + length r.modules) (maps + length r.maps) (claims + 1) records
+
+abbrev pub end_text : Report → List ℕ
+end_text r = text_of (end_line r.header (length r.records) r.end ∷ [])
