@@ -11,10 +11,8 @@ use Rattle.quiver_paths.specs.Quiver.{vertex_count, arrow_count}
 use Rattle.fp_linear.specs.Matrix.{PlainMatrix}
 use Rattle.path_algebra.specs.declared.Header.{Header}
 use Rattle.path_algebra.specs.Allowed.{IsAllowed}
-use Rattle.text_lines.specs.Strict.{strict_line}
 use Rattle.text_lines.specs.Reading.{Reads}
 use Rattle.text_lines.proofs.Readings.{Reads-append}
-use Rattle.text_lines.proofs.StrictLaws.{strict_tokens-strict_line}
 use Rattle.header_text.specs.Named.{IsNamed}
 use Rattle.header_text.specs.Spelling.{arrow_name, vertex_name}
 use Rattle.header_text.proofs.WholeLemmas.{IsNamed-allowed}
@@ -38,7 +36,7 @@ use Rattle.claim_text.specs.declared.part.Part.{Part}
 use Rattle.claim_text.specs.declared.part.Item.{Item}
 use Rattle.claim_text.specs.declared.part.Item.TheVariants as item
 use Rattle.claim_text.specs.Matrices.{empty_matrix, filled}
-use Rattle.claim_text.specs.Spelling.{module_lines, map_lines, modules_lines, maps_lines}
+use Rattle.claim_text.specs.Spelling.{at_arrows, at_vertices, module_lines, map_lines}
 use Rattle.claim_text.specs.Part.{unclaimed, here, counts_of, count_of, name_of, rows_of, columns_of, closed, at_matrices, fill, with_matrix, with_item}
 use Rattle.claim_text.specs.Steps.{Takes, TokenStep, is_header_line, StepBy, Step, FitsItem, item_line, FitsMatrix}
 use Rattle.claim_text.proofs.Runs.{Run, run_none, run_line, run_append, taken}
@@ -134,7 +132,7 @@ module _ (h : Header) (ok : IsAllowed h) where
   block_matrices Left dims matrices rs is = is.matrices
 
   module_read : (rs : List Record) (ms : List Module) (m : Module) (k : ℕ) → 0 < length rs → k ≡ length (modules_of rs) + length ms + 1 → k < 2 ^ 32 → IsModuleBlock h m
-      → Run (between rs ms []) (module_lines h k m) (between rs (ms ++ m ∷ []) [])
+      → Run (between rs ms []) (module_line k m.side m.dims ∷ at_arrows h m.matrices) (between rs (ms ++ m ∷ []) [])
   module_read rs ms m k some e room is =
       let p = between rs ms [] in
       let x = item.Module m.side m.dims in
@@ -143,23 +141,23 @@ module _ (h : Header) (ok : IsAllowed h) where
       let are = block_matrices m.side m.dims m.matrices (here p) is in
       let counted = are.counted in
       let rest = reads_matrices rs ms [] m.dims (owner.Module m.side) [] m.matrices (omega (arith, counted)) are in
-      subst (λ n. Run p (module_lines h n m) (between rs (ms ++ m ∷ []) [])) number
+      subst (λ n. Run p (module_line n m.side m.dims ∷ at_arrows h m.matrices) (between rs (ms ++ m ∷ []) [])) number
       (run_line p (with_item p x) (between rs (ms ++ m ∷ []) []) (item_line p x) (at_lines (arrow_name h.quiver) 0 m.matrices) (λ c out. item_clear c out p x named fits) refl (taken (FitsItem p) (item_line p) (with_item p) x fits (one_item p named)) rest)
 
-  pub modules_read : (rs : List Record) (done todo : List Module) (k : ℕ) → 0 < length rs → k ≡ length (modules_of rs) + length done + 1 → length (modules_of rs) + (length done + length todo) < 2 ^ 32 → All (IsModuleBlock h) todo
-      → Run (between rs done []) (modules_lines h k todo) (between rs (done ++ todo) [])
+  pub modules_read : (rs : List Record) (done todo : List Module) (k : ℕ) → 0 < length rs → k ≡ length (modules_of rs) + length done → length (modules_of rs) + (length done + length todo) < 2 ^ 32 → All (IsModuleBlock h) todo
+      → Run (between rs done []) (module_lines h k todo) (between rs (done ++ todo) [])
   modules_read rs done [] k some e room are = run_none (between rs done []) (between rs (done ++ []) []) (ap (λ l. between rs l []) (append-nil done))
   modules_read rs done (m ∷ rest) k some e room are =
       let long : length (done ++ m ∷ []) ≡ length done + 1 = length-pushed done (done ++ m ∷ []) m refl in
-      let one = module_read rs done m k some e (omega (arith, e, room)) (All-head (IsModuleBlock h) m rest are) in
+      let one = module_read rs done m (k + 1) some (omega (arith, e)) (omega (arith, e, room)) (All-head (IsModuleBlock h) m rest are) in
       let more = modules_read rs (done ++ m ∷ []) rest (k + 1) some (omega (arith, e, long)) (omega (arith, room, long)) (All-tail (IsModuleBlock h) m rest are) in
-      run_append (between rs done []) (between rs (done ++ m ∷ []) []) (between rs (done ++ m ∷ rest) []) (module_lines h k m) (modules_lines h (k + 1) rest) one
-      (subst (λ l. Run (between rs (done ++ m ∷ []) []) (modules_lines h (k + 1) rest) (between rs l [])) (append_assoc done (m ∷ []) rest) more)
+      run_append (between rs done []) (between rs (done ++ m ∷ []) []) (between rs (done ++ m ∷ rest) []) (module_line (k + 1) m.side m.dims ∷ at_arrows h m.matrices) (module_lines h (k + 1) rest) one
+      (subst (λ l. Run (between rs (done ++ m ∷ []) []) (module_lines h (k + 1) rest) (between rs l [])) (append_assoc done (m ∷ []) rest) more)
 
   -- ---- maps
 
   map_read : (rs all : List Record) (ms : List Module) (fs : List Map) (f : Map) (k : ℕ) → 0 < length rs → modules_of all ≡ modules_of rs ++ ms → k ≡ length (maps_of rs) + length fs + 1 → k < 2 ^ 32 → IsMapBlock h all f
-      → Run (between rs ms fs) (map_lines h k f) (between rs ms (fs ++ f ∷ []))
+      → Run (between rs ms fs) (map_line k f.source f.target ∷ at_vertices h f.matrices) (between rs ms (fs ++ f ∷ []))
   map_read rs all ms fs f k some same e room is =
       let p = between rs ms fs in
       let x = item.Map f.source f.target in
@@ -168,15 +166,15 @@ module _ (h : Header) (ok : IsAllowed h) where
       let fits : FitsItem p x = record { behind_basis = some; room = omega (arith, number, room); named_source = block.source; named_target = block.target } in
       let counted = block.matrices.counted in
       let rest = reads_matrices rs ms fs [] (owner.Map f.source f.target) [] f.matrices (omega (arith, counted)) block.matrices in
-      subst (λ n. Run p (map_lines h n f) (between rs ms (fs ++ f ∷ []))) number
+      subst (λ n. Run p (map_line n f.source f.target ∷ at_vertices h f.matrices) (between rs ms (fs ++ f ∷ []))) number
       (run_line p (with_item p x) (between rs ms (fs ++ f ∷ [])) (item_line p x) (at_lines (vertex_name h.quiver) 0 f.matrices) (λ c out. item_clear c out p x named fits) refl (taken (FitsItem p) (item_line p) (with_item p) x fits (one_item p named)) rest)
 
-  pub maps_read : (rs all : List Record) (ms : List Module) (done todo : List Map) (k : ℕ) → 0 < length rs → modules_of all ≡ modules_of rs ++ ms → k ≡ length (maps_of rs) + length done + 1
-      → length (maps_of rs) + (length done + length todo) < 2 ^ 32 → All (IsMapBlock h all) todo → Run (between rs ms done) (maps_lines h k todo) (between rs ms (done ++ todo))
+  pub maps_read : (rs all : List Record) (ms : List Module) (done todo : List Map) (k : ℕ) → 0 < length rs → modules_of all ≡ modules_of rs ++ ms → k ≡ length (maps_of rs) + length done
+      → length (maps_of rs) + (length done + length todo) < 2 ^ 32 → All (IsMapBlock h all) todo → Run (between rs ms done) (map_lines h k todo) (between rs ms (done ++ todo))
   maps_read rs all ms done [] k some same e room are = run_none (between rs ms done) (between rs ms (done ++ [])) (ap (λ l. between rs ms l) (append-nil done))
   maps_read rs all ms done (f ∷ rest) k some same e room are =
       let long : length (done ++ f ∷ []) ≡ length done + 1 = length-pushed done (done ++ f ∷ []) f refl in
-      let one = map_read rs all ms done f k some same e (omega (arith, e, room)) (All-head (IsMapBlock h all) f rest are) in
+      let one = map_read rs all ms done f (k + 1) some same (omega (arith, e)) (omega (arith, e, room)) (All-head (IsMapBlock h all) f rest are) in
       let more = maps_read rs all ms (done ++ f ∷ []) rest (k + 1) some same (omega (arith, e, long)) (omega (arith, room, long)) (All-tail (IsMapBlock h all) f rest are) in
-      run_append (between rs ms done) (between rs ms (done ++ f ∷ [])) (between rs ms (done ++ f ∷ rest)) (map_lines h k f) (maps_lines h (k + 1) rest) one
-      (subst (λ l. Run (between rs ms (done ++ f ∷ [])) (maps_lines h (k + 1) rest) (between rs ms l)) (append_assoc done (f ∷ []) rest) more)
+      run_append (between rs ms done) (between rs ms (done ++ f ∷ [])) (between rs ms (done ++ f ∷ rest)) (map_line (k + 1) f.source f.target ∷ at_vertices h f.matrices) (map_lines h (k + 1) rest) one
+      (subst (λ l. Run (between rs ms (done ++ f ∷ [])) (map_lines h (k + 1) rest) (between rs ms l)) (append_assoc done (f ∷ []) rest) more)

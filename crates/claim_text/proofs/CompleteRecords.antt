@@ -42,7 +42,7 @@ use Rattle.claim_text.specs.declared.part.Place.TheVariants as place
 use Rattle.claim_text.specs.declared.part.Part.{Part}
 use Rattle.claim_text.specs.declared.part.Item.{Item}
 use Rattle.claim_text.specs.declared.part.Item.TheVariants as item
-use Rattle.claim_text.specs.Spelling.{block_lines, modules_lines, maps_lines, lines_of_claim, record_lines, records_lines, report_lines, report_text}
+use Rattle.claim_text.specs.Spelling.{block_lines, module_lines, map_lines, head_of, claim_block, record_lines, records_lines, report_lines, report_text}
 use Rattle.claim_text.specs.Part.{start, report_of, unclaimed, here, counts_of, claimed, with_head, with_item}
 use Rattle.claim_text.specs.Steps.{Takes, TokenStep, begins_body, lexed_begins, is_header_line, StepBy, Step, FitsHead, FitsItem, item_line, IsRead}
 use Rattle.claim_text.specs.Texts.{IsTextOf}
@@ -127,7 +127,7 @@ module _ (h : Header) (ok : IsAllowed h) where
     no_basis line c e = let long = length-pushed rs (with_claim line c) record { line = line; modules = ms; maps = fs; claim = c } refl in absurd (omega (arith, e, long, some))
 
     claim_read : (line : ℕ) (c : Claim) → IsLine line → IsRead c → HasItsPlace (with_claim line c) record { line = line; modules = ms; maps = fs; claim = c } c → IsClaimBlock h (with_claim line c) c
-        → Run p (lines_of_claim h (length rs + 1) line c) (between h ok (with_claim line c) [] [])
+        → Run p (claim_line (length rs + 1) line (head_of c) ∷ claim_block h c) (between h ok (with_claim line c) [] [])
     claim_read line (claim.Basis words steps rules) is read place block = absurd (no_basis line (claim.Basis words steps rules) place.0)
     claim_read line (claim.Module m) is read place block =
         head_read line (head.Module m) _ refl record { claim = record { room = room; is_line = is; numbers = module_number line (claim.Module m) m block }; kind = some }
@@ -177,10 +177,10 @@ module _ (h : Header) (ok : IsAllowed h) where
       let F = length (maps_of rs) in
       let m = modules_count rs r in
       let f = maps_count rs r in
-      run_append (between h ok rs [] []) (between h ok rs r.modules []) (between h ok (rs ++ r ∷ []) [] []) (modules_lines h (M + 1) r.modules) (maps_lines h (F + 1) r.maps ++ lines_of_claim h (length rs + 1) r.line r.claim)
-      (modules_read h ok rs [] r.modules (M + 1) some (omega arith) (omega (arith, m, few_modules)) is.modules)
-      (run_append (between h ok rs r.modules []) (between h ok rs r.modules r.maps) (between h ok (rs ++ r ∷ []) [] []) (maps_lines h (F + 1) r.maps) (lines_of_claim h (length rs + 1) r.line r.claim)
-      (maps_read h ok rs (rs ++ r ∷ []) r.modules [] r.maps (F + 1) some (modules_push rs r) (omega arith) (omega (arith, f, few_maps)) is.maps)
+      run_append (between h ok rs [] []) (between h ok rs r.modules []) (between h ok (rs ++ r ∷ []) [] []) (module_lines h M r.modules) (map_lines h F r.maps ++ claim_line (length rs + 1) r.line (head_of r.claim) ∷ claim_block h r.claim)
+      (modules_read h ok rs [] r.modules M some (omega arith) (omega (arith, m, few_modules)) is.modules)
+      (run_append (between h ok rs r.modules []) (between h ok rs r.modules r.maps) (between h ok (rs ++ r ∷ []) [] []) (map_lines h F r.maps) (claim_line (length rs + 1) r.line (head_of r.claim) ∷ claim_block h r.claim)
+      (maps_read h ok rs (rs ++ r ∷ []) r.modules [] r.maps F some (modules_push rs r) (omega arith) (omega (arith, f, few_maps)) is.maps)
       (claim_read rs r.modules r.maps some room r.line r.claim is.line read is.place is.claim))
 
   records_read : (done todo : List Record) → 0 < length done → length (done ++ todo) < 2 ^ 32 → length (modules_of (done ++ todo)) < 2 ^ 32 → length (maps_of (done ++ todo)) < 2 ^ 32

@@ -1,5 +1,8 @@
 -- Matrices that are read one by one, those without entries by themselves.
 use Rattle.std.proofs.Common.{◌≡◌, ◌≢◌, ℕ, zero, suc, ◌+◌, ◌*◌, ◌-◌, ◌<◌, ◌≤◌, Bool, true, false, List, [], ◌∷◌, ◌++◌, map, length, get_or, cond, replicate, inl, inr, refl, sym, ap, ◌∙◌, subst, arith, append_assoc, append-nil}
+use Rattle.std.specs.Prelude.{◌&&◌, nat_lt}
+use Rattle.std.proofs.Common.{lt-ltb}
+use Rattle.std.proofs.Math.Nat.{mul-zero, zero-mul}
 use Rattle.std.proofs.lemmas.Bool.Decides.{eqb_tells}
 use Rattle.std.proofs.lemmas.Bool.{cases_lt, cases_eq}
 use Rattle.std.proofs.lemmas.List.{length-append, get_or_append_left, get_or_push, get_or_past, length-replicate, get_or-replicate}
@@ -109,18 +112,22 @@ module _ (q : Gf) (rows columns : ℕ → ℕ) where
 
 -- ---- their lines
 
+no_product : (m n : ℕ) → m * n ≡ 0 → (nat_lt 0 m && nat_lt 0 n) ≡ false
+no_product zero n e = refl
+no_product (suc m) zero e = λ i. lt-ltb 0 (suc m) (omega arith) i && false
+no_product (suc m) (suc n) e = absurd (omega (arith, e))
+
+a_product : (m n : ℕ) → m * n ≢ 0 → (nat_lt 0 m && nat_lt 0 n) ≡ true
+a_product zero n differs = absurd (differs (zero-mul n))
+a_product (suc m) zero differs = absurd (differs (mul-zero (suc m)))
+a_product (suc m) (suc n) differs = λ i. lt-ltb 0 (suc m) (omega arith) i && lt-ltb 0 (suc n) (omega arith) i
+
 module _ (name : ℕ → List ℕ) where
   pub at_lines-empty : (i : ℕ) (a : PlainMatrix) (rest : List PlainMatrix) → a.row_count * a.col_count ≡ 0 → at_lines name i (a ∷ rest) ≡ at_lines name (i + 1) rest
-  at_lines-empty i a rest e = elim (eqb_tells (a.row_count * a.col_count) 0) [
-    | inl here ↦ ap (λ b. cond b (at_lines name (i + 1) rest) (at_line (name i) a ∷ at_lines name (i + 1) rest)) here.0
-    | inr other ↦ absurd (other.1 e)
-  ]
+  at_lines-empty i a rest e = ap (λ b. cond b (at_line (name i) a ∷ []) [] ++ at_lines name (i + 1) rest) (no_product a.row_count a.col_count e)
 
   pub at_lines-entry : (i : ℕ) (a : PlainMatrix) (rest : List PlainMatrix) → a.row_count * a.col_count ≢ 0 → at_lines name i (a ∷ rest) ≡ at_line (name i) a ∷ at_lines name (i + 1) rest
-  at_lines-entry i a rest differs = elim (eqb_tells (a.row_count * a.col_count) 0) [
-    | inl here ↦ absurd (differs here.1)
-    | inr other ↦ ap (λ b. cond b (at_lines name (i + 1) rest) (at_line (name i) a ∷ at_lines name (i + 1) rest)) other.0
-  ]
+  at_lines-entry i a rest differs = ap (λ b. cond b (at_line (name i) a ∷ []) [] ++ at_lines name (i + 1) rest) (a_product a.row_count a.col_count differs)
 
   pub at_lines-append : (i : ℕ) (ms ns : List PlainMatrix) → at_lines name i (ms ++ ns) ≡ at_lines name i ms ++ at_lines name (i + length ms) ns
   at_lines-append i [] ns = ap (λ k. at_lines name k ns) (omega arith)
