@@ -6,3 +6,5 @@ pub mod TakenLines
 pub mod CompleteObjects
 pub mod CompleteBasis
 pub mod CompleteRecords
+pub mod Reached
+pub mod SoundObjects
