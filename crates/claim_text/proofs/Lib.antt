@@ -8,3 +8,4 @@ pub mod CompleteBasis
 pub mod CompleteRecords
 pub mod Reached
 pub mod SoundObjects
+pub mod SoundReading

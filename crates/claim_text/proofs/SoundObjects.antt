@@ -140,7 +140,7 @@ lines_map h rs ms fs f k e =
     ∙ ap (λ l. title_line ∷ (header_lines h ++ (records_lines h 0 0 0 rs ++ (module_lines h M ms ++ l)))) (sym (map_lines-push h F fs f)))
   where
     joined : (hs rs ms fs : Lines) (l : List (List ℕ)) (at : Lines) → ((title_line ∷ (hs ++ (rs ++ (ms ++ fs)))) ++ l ∷ []) ++ at ≡ title_line ∷ (hs ++ (rs ++ (ms ++ (fs ++ (l ∷ at)))))
-    joined hs rs ms fs l at = simp (append_assoc, append-nil)
+    joined hs rs ms fs l at = simp append_assoc
 
 -- ---- one claim more
 
@@ -188,7 +188,7 @@ module _ (h : Header) (rs : List Record) (ms : List Module) (fs : List Map) (lin
 
 -- ---- the basis
 
-none_each : (h : Header) (k : ℕ) → MayBeRecord h (take k []) (record_of [] k)
+pub none_each : (h : Header) (k : ℕ) → MayBeRecord h (take k []) (record_of [] k)
 none_each h zero = tt
 none_each h (suc i) = tt
 

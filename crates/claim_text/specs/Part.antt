@@ -153,7 +153,7 @@ with_head p line (head.Translate which n a c) = p
 with_head p line (head.AlmostSplit n e a f g c l) = p
 
 abbrev pub with_item : Part → Item → Part
-with_item p (item.Module side dims) = fill (record p { dims = dims }) (owner.Module side)
-with_item p (item.Map s t) = fill p (owner.Map s t)
+with_item p (item.Module side dims) = fill (record p { dims = dims; matrices = [] }) (owner.Module side)
+with_item p (item.Map s t) = fill (record p { matrices = [] }) (owner.Map s t)
 with_item p (item.Claim line x) = with_head p line x
 with_item p (item.End e) = record p { place = place.Ended; end = e }
