@@ -1,5 +1,5 @@
 -- The lines of modules and maps are read.
-use Rattle.std.proofs.Common.{◌≡◌, ◌≢◌, ℕ, zero, suc, ◌+◌, ◌*◌, ◌<◌, ◌≤◌, ◌^◌, Bool, true, false, List, [], ◌∷◌, ◌++◌, map, length, get_or, cond, inl, inr, refl, sym, ap, ◌∙◌, subst, arith, append_assoc, append-nil}
+use Rattle.std.proofs.Common.{◌≡◌, ◌≢◌, ℕ, zero, suc, ◌+◌, ◌*◌, ◌<◌, ◌≤◌, ◌^◌, Bool, true, false, List, [], ◌∷◌, ◌++◌, map, length, get_or, cond, inl, inr, refl, sym, ap, ◌∙◌, subst, arith, append_assoc, append-nil, lit<}
 use Rattle.std.specs.Prelude.{All}
 use Rattle.std.proofs.lemmas.Bool.Decides.{eqb_tells}
 use Rattle.std.proofs.lemmas.Bool.{cases_eq}
@@ -47,6 +47,9 @@ use Rattle.claim_text.proofs.OtherLines.{one_matrix, matrix_clear, one_item, ite
 module _ (h : Header) (ok : IsAllowed h) where
   named : IsNamed h.quiver
   named = IsNamed-allowed h ok
+
+  few_relations : length h.relations < 2 ^ 32
+  few_relations = let few = ok.few_relations in let big : 256 < 2 ^ 32 = lit< tt in omega arith
 
   -- between whole objects and claims, with what was read of one that is open
   abbrev pub among : List Record → List Module → List Map → List ℕ → List PlainMatrix → Part
@@ -142,7 +145,7 @@ module _ (h : Header) (ok : IsAllowed h) where
       let counted = are.counted in
       let rest = reads_matrices rs ms [] m.dims (owner.Module m.side) [] m.matrices (omega (arith, counted)) are in
       subst (λ n. Run p (module_line n m.side m.dims ∷ at_arrows h m.matrices) (between rs (ms ++ m ∷ []) [])) number
-      (run_line p (with_item p x) (between rs (ms ++ m ∷ []) []) (item_line p x) (at_lines (arrow_name h.quiver) 0 m.matrices) (λ c out. item_clear c out p x named fits) refl (taken (FitsItem p) (item_line p) (with_item p) x fits (one_item p named)) rest)
+      (run_line p (with_item p x) (between rs (ms ++ m ∷ []) []) (item_line p x) (at_lines (arrow_name h.quiver) 0 m.matrices) (λ c out. item_clear c out p x named few_relations fits) refl (taken (FitsItem p) (item_line p) (with_item p) x fits (one_item p named few_relations)) rest)
 
   pub modules_read : (rs : List Record) (done todo : List Module) (k : ℕ) → 0 < length rs → k ≡ length (modules_of rs) + length done → length (modules_of rs) + (length done + length todo) < 2 ^ 32 → All (IsModuleBlock h) todo
       → Run (between rs done []) (module_lines h k todo) (between rs (done ++ todo) [])
@@ -156,25 +159,25 @@ module _ (h : Header) (ok : IsAllowed h) where
 
   -- ---- maps
 
-  map_read : (rs all : List Record) (ms : List Module) (fs : List Map) (f : Map) (k : ℕ) → 0 < length rs → modules_of all ≡ modules_of rs ++ ms → k ≡ length (maps_of rs) + length fs + 1 → k < 2 ^ 32 → IsMapBlock h all f
+  map_read : (rs all : List Record) (ms : List Module) (fs : List Map) (f : Map) (k : ℕ) → 0 < length rs → modules_of all ≡ modules_of rs ++ ms → k ≡ length (maps_of rs) + length fs + 1 → k < 2 ^ 32 → length (modules_of rs) + length ms < 2 ^ 32 → IsMapBlock h all f
       → Run (between rs ms fs) (map_line k f.source f.target ∷ at_vertices h f.matrices) (between rs ms (fs ++ f ∷ []))
-  map_read rs all ms fs f k some same e room is =
+  map_read rs all ms fs f k some same e room few is =
       let p = between rs ms fs in
       let x = item.Map f.source f.target in
       let block : IsMapBlock h (here p) f = map_block_same h all (here p) f (same ∙ sym (modules_push rs (unclaimed p))) is in
       let number : (counts_of p).maps + 1 ≡ k = let c = maps_count rs (unclaimed p) in omega (arith, e, c) in
-      let fits : FitsItem p x = record { behind_basis = some; room = omega (arith, number, room); named_source = block.source; named_target = block.target } in
+      let fits : FitsItem p x = record { behind_basis = some; few_modules = let m = modules_count rs (unclaimed p) in omega (arith, m, few); room = omega (arith, number, room); named_source = block.source; named_target = block.target } in
       let counted = block.matrices.counted in
       let rest = reads_matrices rs ms fs [] (owner.Map f.source f.target) [] f.matrices (omega (arith, counted)) block.matrices in
       subst (λ n. Run p (map_line n f.source f.target ∷ at_vertices h f.matrices) (between rs ms (fs ++ f ∷ []))) number
-      (run_line p (with_item p x) (between rs ms (fs ++ f ∷ [])) (item_line p x) (at_lines (vertex_name h.quiver) 0 f.matrices) (λ c out. item_clear c out p x named fits) refl (taken (FitsItem p) (item_line p) (with_item p) x fits (one_item p named)) rest)
+      (run_line p (with_item p x) (between rs ms (fs ++ f ∷ [])) (item_line p x) (at_lines (vertex_name h.quiver) 0 f.matrices) (λ c out. item_clear c out p x named few_relations fits) refl (taken (FitsItem p) (item_line p) (with_item p) x fits (one_item p named few_relations)) rest)
 
   pub maps_read : (rs all : List Record) (ms : List Module) (done todo : List Map) (k : ℕ) → 0 < length rs → modules_of all ≡ modules_of rs ++ ms → k ≡ length (maps_of rs) + length done
-      → length (maps_of rs) + (length done + length todo) < 2 ^ 32 → All (IsMapBlock h all) todo → Run (between rs ms done) (map_lines h k todo) (between rs ms (done ++ todo))
-  maps_read rs all ms done [] k some same e room are = run_none (between rs ms done) (between rs ms (done ++ [])) (ap (λ l. between rs ms l) (append-nil done))
-  maps_read rs all ms done (f ∷ rest) k some same e room are =
+      → length (maps_of rs) + (length done + length todo) < 2 ^ 32 → length (modules_of rs) + length ms < 2 ^ 32 → All (IsMapBlock h all) todo → Run (between rs ms done) (map_lines h k todo) (between rs ms (done ++ todo))
+  maps_read rs all ms done [] k some same e room few are = run_none (between rs ms done) (between rs ms (done ++ [])) (ap (λ l. between rs ms l) (append-nil done))
+  maps_read rs all ms done (f ∷ rest) k some same e room few are =
       let long : length (done ++ f ∷ []) ≡ length done + 1 = length-pushed done (done ++ f ∷ []) f refl in
-      let one = map_read rs all ms done f (k + 1) some same (omega (arith, e)) (omega (arith, e, room)) (All-head (IsMapBlock h all) f rest are) in
-      let more = maps_read rs all ms (done ++ f ∷ []) rest (k + 1) some same (omega (arith, e, long)) (omega (arith, room, long)) (All-tail (IsMapBlock h all) f rest are) in
+      let one = map_read rs all ms done f (k + 1) some same (omega (arith, e)) (omega (arith, e, room)) few (All-head (IsMapBlock h all) f rest are) in
+      let more = maps_read rs all ms (done ++ f ∷ []) rest (k + 1) some same (omega (arith, e, long)) (omega (arith, room, long)) few (All-tail (IsMapBlock h all) f rest are) in
       run_append (between rs ms done) (between rs ms (done ++ f ∷ [])) (between rs ms (done ++ f ∷ rest)) (map_line (k + 1) f.source f.target ∷ at_vertices h f.matrices) (map_lines h (k + 1) rest) one
       (subst (λ l. Run (between rs ms (done ++ f ∷ [])) (map_lines h (k + 1) rest) (between rs ms l)) (append_assoc done (f ∷ []) rest) more)

@@ -28,7 +28,7 @@ use Rattle.report_types.specs.Lawful.{IsModuleBlock, IsMapBlock, IsRecord, HasIt
 use Rattle.claim_lines.specs.Items.{FitsEnd}
 use Rattle.claim_lines.specs.Spelling.{title_line, claim_line, end_line}
 use Rattle.claim_text.specs.Spelling.{at_arrows, at_vertices, module_lines, map_lines, head_of, claim_block, record_lines, records_lines, report_lines}
-use Rattle.claim_text.specs.Steps.{IsRead}
+use Rattle.claim_text.specs.Judged.{IsJudged}
 use Rattle.claim_text.proofs.ObjectLists.{map_block_same, same_modules, modules_count, maps_count, each_push}
 use Rattle.claim_text.proofs.Reached.{Lines}
 
@@ -80,7 +80,7 @@ pub record Base (h : Header) (rs : List Record) (ms : List Module) (fs : List Ma
   pub few_modules : length (modules_of rs) + length ms < 2 ^ 32
   pub few_maps : length (maps_of rs) + length fs < 2 ^ 32
   pub each : (k : ℕ) → MayBeRecord h (take k rs) (record_of rs k)
-  pub read : All (λ (r : Record). IsRead r.claim) rs
+  pub read : All (λ (r : Record). IsJudged r.claim) rs
   pub modules : All (IsModuleBlock h) ms
   pub maps : All (IsMapBlock h (with_modules rs ms)) fs
 
@@ -148,7 +148,7 @@ module _ (h : Header) (rs : List Record) (ms : List Module) (fs : List Map) (lin
   abbrev pub claimed_record : Record
   claimed_record = record { line = line; modules = ms; maps = fs; claim = c }
 
-  pub sound_claim : Base h rs ms fs → length rs + 1 < 2 ^ 32 → IsRead c → IsLine line → HasItsPlace (rs ++ claimed_record ∷ []) claimed_record c → IsClaimBlock h (rs ++ claimed_record ∷ []) c → Base h (rs ++ claimed_record ∷ []) [] []
+  pub sound_claim : Base h rs ms fs → length rs + 1 < 2 ^ 32 → IsJudged c → IsLine line → HasItsPlace (rs ++ claimed_record ∷ []) claimed_record c → IsClaimBlock h (rs ++ claimed_record ∷ []) c → Base h (rs ++ claimed_record ∷ []) [] []
   sound_claim base room read is place block =
       let r = claimed_record in
       let long = length-pushed rs (rs ++ r ∷ []) r refl in
@@ -165,7 +165,7 @@ module _ (h : Header) (rs : List Record) (ms : List Module) (fs : List Map) (lin
           place = place;
           claim = block;
         };
-        read = All-push (λ (x : Record). IsRead x.claim) rs r base.read read;
+        read = All-push (λ (x : Record). IsJudged x.claim) rs r base.read read;
         modules = All-nil (IsModuleBlock h);
         maps = All-nil (IsMapBlock h (with_modules (rs ++ r ∷ []) []));
       }
@@ -209,7 +209,7 @@ sound_basis h line words steps rules ok is block =
         place = (refl, refl, refl);
         claim = block;
       };
-      read = All-push (λ (x : Record). IsRead x.claim) [] r (All-nil (λ (x : Record). IsRead x.claim)) tt;
+      read = All-push (λ (x : Record). IsJudged x.claim) [] r (All-nil (λ (x : Record). IsJudged x.claim)) tt;
       modules = All-nil (IsModuleBlock h);
       maps = All-nil (IsMapBlock h (with_modules (r ∷ []) []));
     }

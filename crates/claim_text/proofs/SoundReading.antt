@@ -58,7 +58,8 @@ use Rattle.claim_text.specs.declared.part.Item.TheVariants as item
 use Rattle.claim_text.specs.Matrices.{filled}
 use Rattle.claim_text.specs.Spelling.{step_lines, head_of, claim_block, records_lines, report_lines}
 use Rattle.claim_text.specs.Part.{start, report_of, unclaimed, here, counts_of, words_place, steps_place, with_title, with_word_count, with_word, with_step_count, with_step, claimed, at_rules, with_rule_count, with_rule, count_of, name_of, rows_of, columns_of, closed, at_matrices, fill, with_matrix, with_head, with_item}
-use Rattle.claim_text.specs.Steps.{TokenStep, LexedStep, FrontStep, is_header_line, StepBy, Step as ReportStep, MayEnd, FitsModule, FitsMap, FitsHead, FitsItem, FitsMatrix, item_line, IsRead}
+use Rattle.claim_text.specs.Steps.{TokenStep, LexedStep, FrontStep, is_header_line, StepBy, Step as ReportStep, MayEnd, FitsModule, FitsMap, FitsHead, FitsItem, FitsMatrix, item_line}
+use Rattle.claim_text.specs.Judged.{IsJudged}
 use Rattle.claim_text.specs.Texts.{IsTextOf}
 use Rattle.claim_text.proofs.ObjectLists.{map_block_same, same_modules, same_maps, modules_count, maps_count, claim_earlier}
 use Rattle.claim_text.proofs.MatrixBlocks.{push_matrix, push_filled, at_lines-filled, at_lines-push}
@@ -130,7 +131,7 @@ record AmongMatrices (p : Part) (o : Owner) (ls : Lines) : Type 0 where
 
 record Whole (p : Part) (ls : Lines) : Type 0 where
   is : IsReport (report_of p)
-  read : All (λ (r : Record). IsRead r.claim) p.records
+  read : All (λ (r : Record). IsJudged r.claim) p.records
   lines : ls ≡ report_lines (report_of p)
 
 SoundAt : Place → Part → Lines → Type 0
@@ -252,7 +253,7 @@ sound_matrices p o ls s = elim (eqb_tells (length p.matrices) (count_of p.front.
   where
     again : (p : Part) (o : Owner) (ls : Lines) → AmongMatrices p o ls → AmongMatrices (record p { place = place.Matrices o }) o ls
     again p (owner.Module side) ls s = record { base = s.base; fits = record { behind_basis = s.fits.behind_basis; no_map = s.fits.no_map; room = s.fits.room; counted = s.fits.counted; small = s.fits.small }; are = s.are; lines = s.lines }
-    again p (owner.Map a b) ls s = record { base = s.base; fits = record { behind_basis = s.fits.behind_basis; room = s.fits.room; named_source = s.fits.named_source; named_target = s.fits.named_target }; are = s.are; lines = s.lines }
+    again p (owner.Map a b) ls s = record { base = s.base; fits = record { behind_basis = s.fits.behind_basis; few_modules = s.fits.few_modules; room = s.fits.room; named_source = s.fits.named_source; named_target = s.fits.named_target }; are = s.are; lines = s.lines }
 
 with_matrices : (p : Part) (o : Owner) (ls : Lines) (ms : List PlainMatrix) → Base p.front.header p.records p.modules p.maps → FitsOwner p o
     → AreMatrices p.front.header.field (length ms) (rows_of p.front.header p.dims (here p) o) (columns_of p.front.header p.dims (here p) o) ms
@@ -260,7 +261,7 @@ with_matrices : (p : Part) (o : Owner) (ls : Lines) (ms : List PlainMatrix) → 
 with_matrices p (owner.Module side) ls ms base fits are lines =
     record { base = base; fits = record { behind_basis = fits.behind_basis; no_map = fits.no_map; room = fits.room; counted = fits.counted; small = fits.small }; are = are; lines = lines }
 with_matrices p (owner.Map a b) ls ms base fits are lines =
-    record { base = base; fits = record { behind_basis = fits.behind_basis; room = fits.room; named_source = fits.named_source; named_target = fits.named_target }; are = are; lines = lines }
+    record { base = base; fits = record { behind_basis = fits.behind_basis; few_modules = fits.few_modules; room = fits.room; named_source = fits.named_source; named_target = fits.named_target }; are = are; lines = lines }
 
 -- with the matrices without entries that come next
 sound_fill : (p : Part) (o : Owner) (ls : Lines) (ms : List PlainMatrix) → Base p.front.header p.records p.modules p.maps → FitsOwner p o
@@ -315,7 +316,7 @@ module _ (p : Part) (line : ℕ) (c : Claim) where
         is_local = subst IsLocalClaim (sym (claim_earlier p.records record { line = line; modules = p.modules; maps = p.maps; claim = c } _ to)) (local i d l);
       }
 
-  sound_claimed : (ls : Lines) → Between p.front.header p.records p.modules p.maps ls → length p.records + 1 < 2 ^ 32 → IsRead c → IsLine line → claim_block p.front.header c ≡ []
+  sound_claimed : (ls : Lines) → Between p.front.header p.records p.modules p.maps ls → length p.records + 1 < 2 ^ 32 → IsJudged c → IsLine line → claim_block p.front.header c ≡ []
       → HasItsPlace all record { line = line; modules = p.modules; maps = p.maps; claim = c } c → IsClaimBlock p.front.header all c → Sound (claimed p line c) (ls ++ claim_line (length p.records + 1) line (head_of c) ∷ [])
   unfolding SoundAt
   sound_claimed ls s room read is none place block =
@@ -339,30 +340,30 @@ sound_head p ls line head.Basis s fits = absurd (no_first p s.base.some fits.kin
 sound_head p ls line (head.Module m) s fits =
     let c = claim.Module m in
     let f = fits.claim in
-    sound_claimed p line c ls s f.room tt f.is_line refl (behind p line c s.base.some) (module_named p line c m f.numbers)
+    sound_claimed p line c ls s f.room fits.judged f.is_line refl (behind p line c s.base.some) (module_named p line c m f.numbers)
 sound_head p ls line (head.Map m) s fits =
     let c = claim.Map m in
     let f = fits.claim in
-    sound_claimed p line c ls s f.room tt f.is_line refl (behind p line c s.base.some) (map_named p line c m f.numbers)
+    sound_claimed p line c ls s f.room fits.judged f.is_line refl (behind p line c s.base.some) (map_named p line c m f.numbers)
 sound_head p ls line (head.Kernel n g i) s fits =
     let c = claim.Kernel n g i in
     let f = fits.claim in
-    sound_claimed p line c ls s f.room tt f.is_line refl (behind p line c s.base.some)
+    sound_claimed p line c ls s f.room fits.judged f.is_line refl (behind p line c s.base.some)
     record { objects = record { is_module = module_named p line c n f.numbers.0; is_map = map_named p line c g f.numbers.1 }; is_map = map_named p line c i f.numbers.2 }
 sound_head p ls line (head.Cokernel n g i) s fits =
     let c = claim.Cokernel n g i in
     let f = fits.claim in
-    sound_claimed p line c ls s f.room tt f.is_line refl (behind p line c s.base.some)
+    sound_claimed p line c ls s f.room fits.judged f.is_line refl (behind p line c s.base.some)
     record { objects = record { is_module = module_named p line c n f.numbers.0; is_map = map_named p line c g f.numbers.1 }; is_map = map_named p line c i f.numbers.2 }
 sound_head p ls line (head.Radical n a i) s fits =
     let c = claim.Radical n a i in
     let f = fits.claim in
-    sound_claimed p line c ls s f.room tt f.is_line refl (behind p line c s.base.some)
+    sound_claimed p line c ls s f.room fits.judged f.is_line refl (behind p line c s.base.some)
     record { objects = record { is_module = module_named p line c n f.numbers.0; is_map = map_named p line c i f.numbers.2 }; is_module = module_named p line c a f.numbers.1 }
 sound_head p ls line (head.Decomposition a b g k parts) s fits =
     let c = claim.Decomposition a b g k parts in
     let f = fits.claim in
-    sound_claimed p line c ls s f.room tt f.is_line refl (behind p line c s.base.some)
+    sound_claimed p line c ls s f.room fits.judged f.is_line refl (behind p line c s.base.some)
     record {
       whole = record { is_module = module_named p line c a f.numbers.0; is_map = map_named p line c g f.numbers.2 };
       sum = record { is_module = module_named p line c b f.numbers.1; is_map = map_named p line c k f.numbers.3 };
@@ -425,7 +426,7 @@ sound_first p ls (item.End e) s ends fits =
     } in
     let whole : Whole (record p { place = place.Ended; records = []; end = e }) (ls ++ end_line h 0 e ∷ []) = record {
       is = report;
-      read = All-nil (λ (r : Record). IsRead r.claim);
+      read = All-nil (λ (r : Record). IsJudged r.claim);
       lines = ap (λ l. l ++ end_line h 0 e ∷ []) (s.lines ∙ ap (λ l. title_line ∷ l) (lines_at_end p.front s.front ends));
     } in
     subst (λ (rs : List Record). Whole (record p { place = place.Ended; records = rs; end = e }) (ls ++ end_line h (length rs) e ∷ [])) (sym none) whole
@@ -642,6 +643,6 @@ read_is_report text q whole =
     let last : Whole q all.more = subst (λ w. SoundAt w q all.more) whole.ends all.sound in
     record {
       report_is = last.is;
-      are_read = last.read;
+      judged = last.read;
       spelled = sym (concat-lines text) ∙ (ap concat all.spelled ∙ ap text_of last.lines);
     }

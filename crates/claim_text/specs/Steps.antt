@@ -1,5 +1,5 @@
 -- Which lines may follow what has been read of a report, and what is read with them.
-use Rattle.std.specs.Prelude.{ℕ, ⊤, ◌≡◌, ◌≤◌, ◌<◌, ◌^◌, ◌+◌, ◌*◌, ◌≢◌, Bool, ◌||◌, true, false, List, [], ◌∷◌, length, All, codes, nat_eq, decimal, if◌then◌else◌, Some, None}
+use Rattle.std.specs.Prelude.{ℕ, ◌≡◌, ◌≤◌, ◌<◌, ◌^◌, ◌+◌, ◌*◌, ◌≢◌, Bool, ◌||◌, true, false, List, [], ◌∷◌, length, All, codes, nat_eq, decimal, if◌then◌else◌, Some, None}
 use Rattle.std.specs.Cmp.Lexicographic.{pointwise}
 use Rattle.std.specs.declared.option.Option.{Option}
 use Rattle.fp_linear.specs.Matrix.{PlainMatrix}
@@ -11,10 +11,7 @@ use Rattle.quiver_paths.specs.Quiver.{vertex_count}
 use Rattle.module_types.specs.declared.Side.{Side}
 use Rattle.module_types.specs.Shapes.{HasShape, dimension, most_dimension}
 use Rattle.object_lines.specs.Spelling.{module_line, map_line, at_line}
-use Rattle.report_types.specs.declared.claims.Claim.{Claim}
-use Rattle.report_types.specs.declared.claims.Claim.TheVariants as claim
 use Rattle.report_types.specs.declared.claims.PartClaim.{PartClaim}
-use Rattle.report_types.specs.declared.claims.Record.{Record}
 use Rattle.report_types.specs.declared.reports.End.{End}
 use Rattle.report_types.specs.Limits.{path_limit}
 use Rattle.report_types.specs.Numbers.{claim_of}
@@ -29,6 +26,7 @@ use Rattle.claim_text.specs.declared.part.Place.TheVariants as place
 use Rattle.claim_text.specs.declared.part.Part.{Part}
 use Rattle.claim_text.specs.declared.part.Item.{Item}
 use Rattle.claim_text.specs.declared.part.Item.TheVariants as item
+use Rattle.claim_text.specs.Judged.{IsJudgedHead}
 use Rattle.claim_text.specs.Part.{here, counts_of, with_title, with_word_count, with_word, with_step_count, with_step, with_rule_count, with_rule, name_of, rows_of, columns_of, with_matrix, with_item}
 
 -- The tokens spell one of the things that may follow, and lead to what is read with it. (They spell no other.)
@@ -57,6 +55,7 @@ pub record FitsModule (p : Part) (side : Side) (dims : List ℕ) : Type 0 where
 -- a map between modules that stand before it
 pub record FitsMap (p : Part) (source target : ℕ) : Type 0 where
   pub behind_basis : 0 < length p.records
+  pub few_modules : (counts_of p).modules < 2 ^ 32
   pub room : (counts_of p).maps + 1 < 2 ^ 32
   pub named_source : IsNumber (counts_of p).modules source
   pub named_target : IsNumber (counts_of p).modules target
@@ -84,7 +83,10 @@ FitsKind p (head.Translate which n a c) = ⊥
 FitsKind p (head.AlmostSplit n e a f g c l) = ⊥
 
 pub record FitsHead (p : Part) (line : ℕ) (x : Head) : Type 0 where
+  pub few_modules : (counts_of p).modules < 2 ^ 32
+  pub few_maps : (counts_of p).maps < 2 ^ 32
   pub claim : FitsClaim (length p.records) (counts_of p) (line, x)
+  pub judged : IsJudgedHead x
   pub kind : FitsKind p x
 
 -- the last line: directly behind a whole record, or behind the header
@@ -170,14 +172,3 @@ Step p line next = StepBy (is_header_line p.place line) p line next
 -- a report may end behind its last line
 abbrev pub MayEnd : Part → Type 0
 MayEnd p = p.place ≡ place.Ended
-
--- the kinds of claims that are read
-abbrev pub IsRead : Claim → Type 0
-IsRead (claim.Basis words steps rules) = ⊤
-IsRead (claim.Module m) = ⊤
-IsRead (claim.Map f) = ⊤
-IsRead (claim.Kernel n f i) = ⊤
-IsRead (claim.Cokernel n f i) = ⊤
-IsRead (claim.Radical n a i) = ⊤
-IsRead (claim.Decomposition a s f g parts) = ⊤
-IsRead c = ⊥

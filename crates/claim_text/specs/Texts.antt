@@ -7,12 +7,13 @@ use Rattle.report_types.specs.declared.reports.Report.{Report}
 use Rattle.report_types.specs.Lawful.{IsReport}
 use Rattle.claim_text.specs.Spelling.{report_text}
 use Rattle.claim_text.specs.Part.{start}
-use Rattle.claim_text.specs.Steps.{Step, MayEnd, IsRead}
+use Rattle.claim_text.specs.Steps.{Step, MayEnd}
+use Rattle.claim_text.specs.Judged.{IsJudged}
 
--- the text is the spelling of this report, whose claims are of the kinds that are read
+-- the text is the spelling of this report, whose claims are of kinds that can be judged
 pub record IsTextOf (text : List ℕ) (report : Report) : Type 0 where
   pub report_is : IsReport report
-  pub are_read : All (λ (r : Record). IsRead r.claim) report.records
+  pub judged : All (λ (r : Record). IsJudged r.claim) report.records
   pub spelled : text ≡ report_text report
 
 -- Line k, counted from 1, is the first bad line of the text: it may not follow the lines before it. Where the text ends too
