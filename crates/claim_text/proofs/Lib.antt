@@ -9,3 +9,5 @@ pub mod CompleteRecords
 pub mod Reached
 pub mod SoundObjects
 pub mod SoundReading
+pub mod DecidedLines
+pub mod ReportLaws
