@@ -9,6 +9,7 @@ use Rattle.fp_linear.specs.Matrix.{PlainMatrix}
 use Rattle.header_text.specs.Spelling.{text_of}
 use Rattle.header_text.proofs.Joining.{text_of-append}
 use Rattle.object_lines.specs.Spelling.{numbers_form, slash_each, matrix_form, at_line, at_lines, has_entry}
+use Rattle.object_lines.specs.Reading.{slash_before}
 use Rattle.object_lines.specs.Written.{behind_spaces}
 
 pub behind-append : (xs ys : List (List ℕ)) → behind_spaces (xs ++ ys) ≡ behind_spaces xs ++ behind_spaces ys
@@ -48,16 +49,12 @@ items_step f o a b xs i d h e g =
 
 -- ---- matrices
 
-slash-append : (xs ys : List (List ℕ)) → slash_each (xs ++ ys) ≡ slash_each xs ++ slash_each ys
+pub slash-append : (xs ys : List (List ℕ)) → slash_each (xs ++ ys) ≡ slash_each xs ++ slash_each ys
 slash-append [] ys = refl
 slash-append (x ∷ xs) ys =
     ap (λ l. codes "/" ∷ (numbers_form x ++ l)) (slash-append xs ys) ∙ ap (λ l. codes "/" ∷ l) (sym (append_assoc (numbers_form x) (slash_each xs) (slash_each ys)))
 
--- what stands between two rows, before each but the first
-abbrev pub slash_before : ℕ → List (List ℕ)
-slash_before i = cond (eqb i 0) [] (codes "/" ∷ [])
-
-matrix-more : (x : List ℕ) (xs : List (List ℕ)) (row : List ℕ) → matrix_form ((x ∷ xs) ++ row ∷ []) ≡ (matrix_form (x ∷ xs) ++ codes "/" ∷ []) ++ numbers_form row
+pub matrix-more : (x : List ℕ) (xs : List (List ℕ)) (row : List ℕ) → matrix_form ((x ∷ xs) ++ row ∷ []) ≡ (matrix_form (x ∷ xs) ++ codes "/" ∷ []) ++ numbers_form row
 matrix-more x xs row =
     ap (λ l. numbers_form x ++ l) (slash-append xs (row ∷ []) ∙ ap (λ l. slash_each xs ++ codes "/" ∷ l) (append-nil (numbers_form row)))
     ∙ (sym (append_assoc (numbers_form x) (slash_each xs) (codes "/" ∷ numbers_form row))

@@ -1,16 +1,17 @@
 -- What the lines of modules, maps, matrices, rows and terms say, and when a line may say it.
-use Rattle.std.specs.Prelude.{ℕ, ◌≡◌, ◌<◌, ◌≤◌, List, [], ◌∷◌, length, All}
+use Rattle.std.specs.Prelude.{ℕ, ◌≡◌, ◌<◌, ◌≤◌, ◌^◌, List, [], ◌∷◌, length, All}
 use Rattle.quiver_paths.specs.Quiver.{vertex_count}
 use Rattle.path_algebra.specs.declared.Header.{Header}
 use Rattle.path_algebra.specs.Derivations.{IsNumber}
 use Rattle.module_types.specs.Shapes.{dimension, most_dimension}
-use Rattle.object_lines.specs.Spelling.{module_line, map_line}
+use Rattle.object_lines.specs.Spelling.{module_line}
+use Rattle.object_lines.specs.Reading.{IsAtMost, IsVertex}
 use Rattle.object_lines.specs.declared.objects.ModuleHead.{ModuleHead}
 
 -- so many numbers, each at most as large
 pub record AreNumbers (most count : ℕ) (numbers : List ℕ) : Type 0 where
   pub counted : length numbers ≡ count
-  pub small : All (λ n. n ≤ most) numbers
+  pub small : All (IsAtMost most) numbers
 
 -- the side and the dimensions of a module over the quiver, of at most the largest dimension
 pub record FitsModule (h : Header) (m : ModuleHead) : Type 0 where
@@ -25,6 +26,7 @@ pub record FitsMap (modules source target : ℕ) : Type 0 where
   pub from : IsNumber modules source
   pub to : IsNumber modules target
 
--- vertices of the quiver, of which some may be the same
-abbrev pub AreVertices : Header → List ℕ → Type 0
-AreVertices h vertices = All (λ v. v < vertex_count h.quiver) vertices
+-- the vertices of generators, of which some may be the same
+pub record FitsTerm (h : Header) (vertices : List ℕ) : Type 0 where
+  pub few : length vertices < 2 ^ 64
+  pub places : All (IsVertex h.quiver) vertices
