@@ -21,6 +21,11 @@ use Rattle.report_types.specs.declared.reports.End.TheVariants.{Done, Refused}
 use Rattle.claim_lines.specs.declared.heads.Head.{Head}
 use Rattle.claim_lines.specs.declared.heads.Head.TheVariants as head
 
+-- tokens, each behind a space
+abbrev pub behind_spaces : List (List ℕ) → List ℕ
+behind_spaces [] = []
+behind_spaces (t ∷ ts) = 32 ∷ (t ++ behind_spaces ts)
+
 abbrev pub title_line : List (List ℕ)
 title_line = codes "report" ∷ codes "1" ∷ []
 
