@@ -1,0 +1,6 @@
+use Rattle.std.proofs.Common.{◌<◌, ◌^◌, [], arith, lit<}
+use Rattle.object_lines.proofs.NumberReading.{zero_first}
+use Rattle.object_lines.proofs.numbers.only_place.Goals as goal
+
+pub returns-then-n-eq0 : goal.returns-then-n-eq0
+returns-then-n-eq0 c = λ x is e. zero_first c.in-Some.n x c.args.tokens _ [] c.if-n-eq0.true (let from = is.from in omega arith) (let to = is.to in let fits = c.ranges.last.fits in let big : 2 ^ 32 < 2 ^ 64 = lit< tt in omega arith) c.in-Some.ensures.1 e

@@ -1,0 +1,10 @@
+use Rattle.std.proofs.Common.{decimal}
+use Rattle.object_lines.specs.Reading.{IsElement, IsAtMost, IsVertex}
+use Rattle.object_lines.proofs.Taking.{no_more, takes_more}
+use Rattle.object_lines.proofs.numbers.take_numbers.Goals as goal
+
+pub returns-in_default : goal.returns-in_default
+returns-in_default c = no_more decimal (IsAtMost c.args.most) c.loop-taken._taken c.args.count _ _ c.args.tokens.now c.loop-taken.tokens c.loop-taken.invariant c.loop-taken-test.true c.in_default.ensures
+
+pub loop-taken-preserved : goal.loop-taken-preserved
+loop-taken-preserved c = takes_more decimal (IsAtMost c.args.most) c.loop-taken._taken _ _ _ _ _ _ c.in-Some.n c.loop-taken.invariant c.in-Some.ensures.0 c.in_ok-push.ensures c.in-Some.ensures.1
