@@ -15,8 +15,7 @@ use Rattle.report_types.specs.declared.reports.End.TheVariants as end
 use Rattle.script_answers.specs.Answers.{HasFewPaths}
 use Rattle.report_types.proofs.VerdictLaws.{words_of, one_verdict}
 use Rattle.script_answers.proofs.Fronts.{ends_done}
-use Rattle.claim_text.specs.Texts.{IsTextOf}
-use Rattle.claim_text.proofs.ReportLaws.{report_not_bad}
+use Rattle.claim_text.proofs.ReportLaws.{one_report, report_not_bad}
 use Rattle.script_types.specs.declared.Script.{Script}
 use Rattle.script_lang.specs.Scripts.{IsScript}
 use Rattle.script_lang.proofs.ScriptLaws.{one_script, script_not_bad}
@@ -30,10 +29,6 @@ use Rattle.top_call.specs.Modes.{AsksFor, input_limit}
 use Rattle.top_call.specs.Answers.{Answers}
 use Rattle.top_call.specs.Outcomes.{IsText, IsBegun, IsStopped, IsAnswered, IsTooLong, Writes, HasCause}
 use Rattle.top_call.specs.Expected.{IsGood, IsDoneOrNoMemory}
-
--- STAND-IN
-one_report : (text : List ℕ) (r s : Report) → IsTextOf text r → IsTextOf text s → r ≡ s
-one_report text r s a b = ?
 
 differs : codes "run" ∷ [] ≡ codes "check" ∷ [] → ⊥
 differs e = let n = ap (λ (l : List (List ℕ)). sizes l) e in absurd (omega (arith, n))
