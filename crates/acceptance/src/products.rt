@@ -34,14 +34,14 @@ end 1
 fn table_of(alloc: Global, report: &Report) -> Result<Table, Fail>
     requires { IsReport report.now }
 {
-    if report.records.is_empty() {
+    let Some(first) = report.records.record_at(1) else {
         return Err("no claim".into());
-    }
+    };
     let Claim::Basis {
         words,
         steps,
         rules,
-    } = &report.records[0].claim
+    } = &first.claim
     else {
         return Err("no basis".into());
     };

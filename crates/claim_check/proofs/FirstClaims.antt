@@ -41,11 +41,7 @@ none_before : (report : Report) (j : ℕ) → j < 1 → ConditionsHold report j
 none_before report zero l = λ n. tt
 none_before report (suc j) l = absurd (omega (arith, l))
 
--- the first record, where there is one
-pub first_there : (rs : List Record) (first : Record) → 0 < length rs → first ≡ slice_index_or rs 0 first → record_of rs 1 ≡ Some first
-first_there [] first some same = absurd (omega (arith, some))
-first_there (r ∷ rs) first some same = ap Some (sym same)
-
+-- the claim by lists that are those of its own
 pub same_basis : (c : Claim) (words ws : List Path) (steps ss : List Step) (rules rs : List Rule) → c ≡ Basis words steps rules → ws ≡ words → ss ≡ steps → rs ≡ rules
     → c ≡ Basis ws ss rs
 same_basis c words ws steps ss rules rs is a b d = cc

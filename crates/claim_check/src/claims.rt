@@ -30,7 +30,7 @@ pub fn check_claim(_table: &Table, report: &Report, k: u32, _scratch: &mut Scrat
     requires number { IsClaimNumber report.now k }
     ensures { IsClaimVerdict report.now k result }
 {
-    match &report.records[k as usize - 1].claim {
+    match &report.records.as_slice()[k as usize - 1].claim {
         Claim::Basis { .. } => Verdict::Holds,
         _ => unreachable!(),
     }

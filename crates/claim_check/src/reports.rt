@@ -48,11 +48,14 @@ fn check_claims(alloc: Global, report: &Report) -> Result<Verdict, AllocError>
     requires some { 0 < length report.now.records }
     ensures { IfOk result (IsVerdict report.now) }
 {
+    let Some(first) = report.records.record_at(1) else {
+        unreachable!()
+    };
     let Claim::Basis {
         words,
         steps,
         rules,
-    } = &report.records[0].claim
+    } = &first.claim
     else {
         unreachable!()
     };
