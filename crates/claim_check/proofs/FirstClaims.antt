@@ -1,6 +1,6 @@
 -- The first claim of a report: its numbers and shapes, and its conditions.
-use Rattle.std.proofs.Common.{ℕ, zero, suc, ◌≡◌, ◌<◌, List, [], ◌∷◌, Some, length, refl, sym, ap, subst, arith}
-use Rattle.std.specs.Prelude.{◌++◌, take, slice_index_or}
+use Rattle.std.proofs.Common.{ℕ, zero, suc, ◌≡◌, ◌<◌, List, Some, length, refl, sym, subst, arith}
+use Rattle.std.specs.Prelude.{◌++◌, take}
 use Rattle.std.proofs.lemmas.List.Elements.{All-weaker}
 use Rattle.quiver_paths.specs.Path.{IsPath}
 use Rattle.path_algebra.specs.Words.{IsShortPath}
