@@ -1,12 +1,12 @@
 //! Calls on a table that no script reaches yet: products of words with arrows, places of words, normal forms of paths.
 ghost use Rattle.std.specs.Prelude.{IfSome, IfOk};
-ghost use Rattle.claim_types.specs.Lawful.{IsReport};
+ghost use Rattle.report_types.specs.Lawful.{IsReport};
 ghost use Rattle.quiver_paths.specs.Path.{IsPath};
 
 use alg_table::{Side, Table, check_basis};
 use claim_text::read;
-use claim_types::{Claim, Report};
 use quiver_paths::{Path, Quiver, concat};
+use report_types::{Claim, Report};
 use std::alloc::Global;
 use std::test::Fail;
 
@@ -34,14 +34,17 @@ end 1
 fn table_of(alloc: Global, report: &Report) -> Result<Table, Fail>
     requires { IsReport report.now }
 {
-    if report.records.is_empty() {
+    let Some(first) = report.records.record_at(1) else {
         return Err("no claim".into());
-    }
+    };
     let Claim::Basis {
         words,
         steps,
         rules,
-    } = &report.records[0].claim;
+    } = &first.claim
+    else {
+        return Err("no basis".into());
+    };
     match check_basis(
         alloc,
         &report.header,

@@ -1,1 +1,2 @@
 pub mod ClaimVerdicts
+pub mod Judged

@@ -1,18 +1,20 @@
 //! Checking one claim behind the first.
-ghost use Rattle.claim_types.specs.Lawful.{IsReport};
+ghost use Rattle.report_types.specs.Lawful.{IsReport};
 ghost use Rattle.claim_check.specs.ClaimVerdicts.{IsClaimNumber, IsClaimVerdict, IsTableOf};
+ghost use Rattle.claim_check.specs.Judged.{AreJudged};
 
 use alg_table::Table;
-use claim_types::{Claim, Report, Verdict};
+use report_types::{Claim, Report, Verdict};
 use std::alloc::{AllocError, Global};
 
-/// The space that claims are checked in. No kind of claim that there is needs any; it grows with the kinds that do.
+/// The space that claims are checked in. No kind of claim that is judged needs any; it grows with the kinds that do.
 #[derive(Drop)]
 pub struct Scratch {}
 
 /// Space for checking each claim of a report.
 pub fn scratch_for(_alloc: Global, _table: &Table, _report: &Report) -> Result<Scratch, AllocError>
     requires report { IsReport _report.now }
+    requires judged { AreJudged _report.now.records }
     requires table { IsTableOf _report.now _table.now }
 {
     Ok(Scratch {})
@@ -23,11 +25,13 @@ pub fn scratch_for(_alloc: Global, _table: &Table, _report: &Report) -> Result<S
 /// `Fails` comes exactly where a condition on the claim fails, and names the first. Claim 1 holds: the table is there.
 pub fn check_claim(_table: &Table, report: &Report, k: u32, _scratch: &mut Scratch) -> Verdict
     requires report { IsReport report.now }
+    requires judged { AreJudged report.now.records }
     requires table { IsTableOf report.now _table.now }
     requires number { IsClaimNumber report.now k }
     ensures { IsClaimVerdict report.now k result }
 {
-    match &report.records[k as usize - 1].claim {
+    match &report.records.as_slice()[k as usize - 1].claim {
         Claim::Basis { .. } => Verdict::Holds,
+        _ => unreachable!(),
     }
 }

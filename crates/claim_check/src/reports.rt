@@ -1,19 +1,20 @@
 //! Checking a report.
 ghost use Rattle.std.specs.Prelude.{◌≡◌, ◌<◌, ◌≤◌, length, IfOk};
-ghost use Rattle.claim_types.specs.Clauses.{basis_fault};
-ghost use Rattle.claim_types.specs.Lawful.{IsReport};
-ghost use Rattle.claim_types.specs.Verdicts.{IsVerdict};
-ghost use Rattle.claim_check.specs.ClaimVerdicts.{IsTableOf};
+ghost use Rattle.report_types.specs.Lawful.{IsReport};
+ghost use Rattle.report_types.specs.Verdicts.{IsVerdict};
+ghost use Rattle.claim_check.specs.ClaimVerdicts.{IsTableOf, clause_of};
+ghost use Rattle.claim_check.specs.Judged.{AreJudged};
 
 use crate::claims::{check_claim, scratch_for};
 use alg_table::{CheckBasisError, Table, check_basis};
-use claim_types::{Claim, Clause, Report, Verdict};
+use claim_conditions::Clause;
 use path_algebra::BasisFault;
+use report_types::{Claim, Report, Verdict};
 use std::alloc::{AllocError, Global};
 
 /// The condition on a claim that a fault of its basis names.
 fn clause_of(fault: BasisFault) -> Clause
-    ensures { basis_fault result ≡ fault }
+    ensures { result ≡ clause_of fault }
 {
     match fault {
         BasisFault::Step => Clause::Step,
@@ -27,6 +28,7 @@ fn clause_of(fault: BasisFault) -> Clause
 /// The verdict where claim 1 has given its table.
 fn check_later(alloc: Global, table: &Table, report: &Report) -> Result<Verdict, AllocError>
     requires report { IsReport report.now }
+    requires judged { AreJudged report.now.records }
     requires table { IsTableOf report.now table.now }
     ensures { IfOk result (IsVerdict report.now) }
 {
@@ -42,15 +44,21 @@ fn check_later(alloc: Global, table: &Table, report: &Report) -> Result<Verdict,
 /// The verdict on a report that has a claim.
 fn check_claims(alloc: Global, report: &Report) -> Result<Verdict, AllocError>
     requires report { IsReport report.now }
+    requires judged { AreJudged report.now.records }
     requires some { 0 < length report.now.records }
     ensures { IfOk result (IsVerdict report.now) }
 {
-    let first = &report.records[0];
+    let Some(first) = report.records.record_at(1) else {
+        unreachable!()
+    };
     let Claim::Basis {
         words,
         steps,
         rules,
-    } = &first.claim;
+    } = &first.claim
+    else {
+        unreachable!()
+    };
     match check_basis(
         alloc,
         &report.header,
@@ -70,10 +78,11 @@ fn check_claims(alloc: Global, report: &Report) -> Result<Verdict, AllocError>
     }
 }
 
-/// The verdict on a report: all conditions hold, or the first claim of which they do not, with the first that fails. A report
-/// without claims holds. The verdict is the same for every number of workers.
+/// The verdict on a report whose claims are of kinds that are judged: all conditions hold, or the first claim of which they do not, with the first that fails.
+/// A report without claims holds. The verdict is the same for every number of workers.
 pub fn check_report(alloc: Global, report: &Report, _workers: u32) -> Result<Verdict, AllocError>
     requires report { IsReport report.now }
+    requires judged { AreJudged report.now.records }
     requires workers { (1 ≤ _workers) × (_workers ≤ 16) }
     ensures { IfOk result (IsVerdict report.now) }
 {

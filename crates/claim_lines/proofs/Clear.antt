@@ -20,15 +20,10 @@ use Rattle.header_text.specs.Spelling.{arrow_name, path_text, coefficient_text, 
 use Rattle.header_text.specs.Named.{IsNamed}
 use Rattle.header_text.proofs.Clean.{IsOutside, space_outside, feed_outside, decimal_lacks, arrow_name_lacks, path_lacks, coefficient_lacks, lacks_append, lacks_cons, plus_between_lacks}
 use Rattle.header_text.proofs.Readers.{order_small}
-use Rattle.claim_types.specs.declared.reports.Why.TheVariants.{NotBuilt, PathLimit}
-use Rattle.claim_types.specs.declared.reports.End.{End}
-use Rattle.claim_types.specs.declared.reports.End.TheVariants.{Done, Refused}
-use Rattle.claim_types.specs.Limits.{IsLine}
-use Rattle.claim_types.specs.Lawful.{IsWrittenRule, IsFullEnd}
-use Rattle.claim_lines.specs.declared.ends.First.{First}
-use Rattle.claim_lines.specs.declared.ends.First.TheVariants as first
-use Rattle.claim_lines.specs.Spelling.{title_line, words_line, word_line, steps_line, step_form, step_line, rules_line, tail_form, rule_line, end_line}
-use Rattle.claim_lines.specs.Items.{FitsFirst, first_line, FitsStep}
+use Rattle.report_types.specs.Limits.{IsLine}
+use Rattle.report_types.specs.BasisBlocks.{IsWrittenRule}
+use Rattle.claim_lines.specs.Spelling.{title_line, words_line, word_line, steps_line, step_form, step_line, rules_line, tail_form, rule_line}
+use Rattle.claim_lines.specs.Items.{FitsStep}
 
 -- a byte that stands in no token of a report
 pub record Outside (c : ℕ) : Type 0 where
@@ -56,35 +51,35 @@ some_token t ts e = none t ts e
     none : (t : List ℕ) (ts : List (List ℕ)) → t ∷ ts ≡ [] → ⊥
     none t ts e = cc
 
-below : (n m : ℕ) → n ≤ m → m < 2 ^ 32 → n < 2 ^ 64
+pub below : (n m : ℕ) → n ≤ m → m < 2 ^ 32 → n < 2 ^ 64
 below n m a b = let big : 2 ^ 32 < 2 ^ 64 = lit< tt in omega arith
 
-line_below : (n : ℕ) → IsLine n → n < 2 ^ 64
+pub line_below : (n : ℕ) → IsLine n → n < 2 ^ 64
 line_below n is = let to = is.to in let big : 4194304 < 2 ^ 64 = lit< tt in omega arith
 
 module _ (c : ℕ) (o : Outside c) where
   -- a word of letters and digits
-  word_lacks : (w : List ℕ) → list_all is_name_byte w ≡ true → Lacks c w
+  pub word_lacks : (w : List ℕ) → list_all is_name_byte w ≡ true → Lacks c w
   word_lacks w e =
       All-weaker (λ b. is_name_byte b ≡ true) (λ b. eqb b c ≡ false)
       (λ b name. false_from_ne_true (eqb b c) (λ s. clash (sym name ∙ (ap is_name_byte (eqb-true b c s) ∙ o.out.name)))) w (AllPass-from_list_all is_name_byte w e)
 
-  number_lacks : (n : ℕ) → n < 2 ^ 64 → Lacks c (decimal n)
+  pub number_lacks : (n : ℕ) → n < 2 ^ 64 → Lacks c (decimal n)
   number_lacks n h = decimal_lacks c o.out.digit n h
 
-  nothing : All (Lacks c) []
+  pub nothing : All (Lacks c) []
   nothing = All-nil (Lacks c)
 
-  more : (t : List ℕ) (ts : List (List ℕ)) → Lacks c t → All (Lacks c) ts → All (Lacks c) (t ∷ ts)
+  pub more : (t : List ℕ) (ts : List (List ℕ)) → Lacks c t → All (Lacks c) ts → All (Lacks c) (t ∷ ts)
   more t ts a b = All-cons (Lacks c) t ts a b
 
-  line : (t : List ℕ) (ts : List (List ℕ)) → Lacks c t → All (Lacks c) ts → ClearLine c (t ∷ ts)
+  pub line : (t : List ℕ) (ts : List (List ℕ)) → Lacks c t → All (Lacks c) ts → ClearLine c (t ∷ ts)
   line t ts a b = record { some = some_token t ts; lacks = more t ts a b }
 
   pub title_clear : ClearLine c title_line
   title_clear = line (codes "report") (codes "1" ∷ []) (word_lacks (codes "report") refl) (more (codes "1") [] (word_lacks (codes "1") refl) nothing)
 
-  count_clear : (w : List ℕ) (n : ℕ) → list_all is_name_byte w ≡ true → n < 2 ^ 64 → ClearLine c (w ∷ decimal n ∷ [])
+  pub count_clear : (w : List ℕ) (n : ℕ) → list_all is_name_byte w ≡ true → n < 2 ^ 64 → ClearLine c (w ∷ decimal n ∷ [])
   count_clear w n e h = line w (decimal n ∷ []) (word_lacks w e) (more (decimal n) [] (number_lacks n h) nothing)
 
   pub words_clear : (n : ℕ) → n < 2 ^ 64 → ClearLine c (words_line (decimal n))
@@ -96,29 +91,11 @@ module _ (c : ℕ) (o : Outside c) where
   pub rules_clear : (n : ℕ) → n < 2 ^ 64 → ClearLine c (rules_line (decimal n))
   rules_clear n h = count_clear (codes "rules") n refl h
 
-  path_clear : (Q : Quiver) → IsNamed Q → (p : Path) → Lacks c (path_text Q p)
+  pub path_clear : (Q : Quiver) → IsNamed Q → (p : Path) → Lacks c (path_text Q p)
   path_clear Q named p = path_lacks c o.out.name o.out.dot o.out.at_sign Q named p.start p.arrows
 
   pub word_clear : (h : Header) → IsNamed h.quiver → (w : Path) → ClearLine c (word_line h.quiver w)
   word_clear h named w = line (codes "word") (path_text h.quiver w ∷ []) (word_lacks (codes "word") refl) (more (path_text h.quiver w) [] (path_clear h.quiver named w) nothing)
-
-  pub first_clear : (f : First) → FitsFirst f → ClearLine c (first_line f)
-  first_clear (first.Basis n) is =
-      line (codes "claim") (decimal 1 ∷ codes "line" ∷ decimal n ∷ codes "basis" ∷ []) (word_lacks (codes "claim") refl)
-      (more (decimal 1) (codes "line" ∷ decimal n ∷ codes "basis" ∷ []) (number_lacks 1 (lit< tt))
-      (more (codes "line") (decimal n ∷ codes "basis" ∷ []) (word_lacks (codes "line") refl)
-      (more (decimal n) (codes "basis" ∷ []) (number_lacks n (line_below n is)) (more (codes "basis") [] (word_lacks (codes "basis") refl) nothing))))
-  first_clear (first.Limit n count) is =
-      line (codes "refused") (decimal n ∷ codes "PathLimit" ∷ decimal count ∷ []) (word_lacks (codes "refused") refl)
-      (more (decimal n) (codes "PathLimit" ∷ decimal count ∷ []) (number_lacks n (line_below n is.0))
-      (more (codes "PathLimit") (decimal count ∷ []) (word_lacks (codes "PathLimit") refl) (more (decimal count) [] (number_lacks count is.1) nothing)))
-
-  pub end_clear : (e : End) → IsFullEnd e → ClearLine c (end_line 1 e)
-  end_clear Done is = count_clear (codes "end") 1 refl (lit< tt)
-  end_clear (Refused n NotBuilt) is =
-      line (codes "refused") (decimal n ∷ codes "NotBuilt" ∷ []) (word_lacks (codes "refused") refl)
-      (more (decimal n) (codes "NotBuilt" ∷ []) (number_lacks n (line_below n is)) (more (codes "NotBuilt") [] (word_lacks (codes "NotBuilt") refl) nothing))
-  end_clear (Refused n (PathLimit count)) is = absurd is
 
   form_clear : (h : Header) → IsNamed h.quiver → length h.relations < 2 ^ 32 → (k : ℕ) (s : Step) → FitsStep h k s → All (Lacks c) (step_form h.quiver s)
   form_clear h named few k (step.Relation r) is =

@@ -1,4 +1,4 @@
--- Deciding what the lines of a report may say: first lines, words, counts, steps, rules and last lines.
+-- Deciding what the lines of a basis may say: counts, words, steps and rules.
 use Rattle.std.proofs.Common.{◌≡◌, ◌≢◌, ℕ, ◌+◌, ◌<◌, ◌≤◌, ◌^◌, List, [], ◌∷◌, map, length, get_or, codes, decimal, All, ◌⊎◌, inl, inr, refl, ap, arith, length-append}
 use Rattle.std.proofs.lemmas.List.{length-map}
 use Rattle.std.specs.Str.Parse.{AllDigits, digits_value}
@@ -16,16 +16,11 @@ use Rattle.path_algebra.specs.declared.rules.Step.TheVariants as step
 use Rattle.path_algebra.specs.Derivations.{IsNumber, NamesEarlier}
 use Rattle.path_algebra.specs.BasisClauses.{HasFactor}
 use Rattle.header_text.specs.Spelling.{term_text, plus_each}
-use Rattle.claim_types.specs.declared.reports.Why.TheVariants.{NotBuilt, PathLimit}
-use Rattle.claim_types.specs.declared.reports.End.{End}
-use Rattle.claim_types.specs.declared.reports.End.TheVariants.{Done, Refused}
-use Rattle.claim_types.specs.Limits.{length_limit, IsLine}
-use Rattle.claim_types.specs.Lawful.{IsFullEnd, IsWrittenRule}
-use Rattle.claim_lines.specs.declared.ends.First.{First}
-use Rattle.claim_lines.specs.declared.ends.First.TheVariants as first
+use Rattle.report_types.specs.Limits.{length_limit}
+use Rattle.report_types.specs.BasisBlocks.{IsWrittenRule}
 use Rattle.claim_lines.specs.Spelling.{tail_form, rule_line}
-use Rattle.claim_lines.specs.Items.{IsCount, FitsFirst, FitsWord, FitsStep, FitsRule}
-use Rattle.deciding.proofs.Deciding.{Decided, both, like, three, four, fails, if_so, below, at_most, of_each, IsListed, fewer, just, either, images, pairs, numbers_below, lists_to}
+use Rattle.claim_lines.specs.Items.{IsCount, FitsWord, FitsStep, FitsRule}
+use Rattle.deciding.proofs.Deciding.{Decided, both, like, three, four, fails, if_so, below, at_most, of_each, IsListed, fewer, either, images, pairs, numbers_below, lists_to}
 use Rattle.deciding.proofs.DecidedPaths.{number_decided, path_decided, same_paths, short_decided, tail_decided, IsPathBelow, paths_listed, IsTermBelow, terms_listed, tail_terms}
 
 -- ---- numerals
@@ -39,30 +34,6 @@ count_decided ds =
     like (λ h. record { value = digits_value 10 ds; numeral_is = record { writes = record { some = h.0; digits = h.1; value = refl }; plain = h.2 } })
     (λ is. (is.numeral_is.writes.some, is.numeral_is.writes.digits, is.numeral_is.plain))
     (three (below 0 (length ds)) (digits_decided ds) (if_so (cases_eq (get_or ds 0 0) 48) (cases_eq (length ds) 1)))
-
--- ---- first lines
-
-line_decided : (n : ℕ) → Decided (IsLine n)
-line_decided n = like (λ h. record { from = h.0; to = h.1 }) (λ h. (h.from, h.to)) (both (at_most 1 n) (at_most n 4194304))
-
-pub first_decided : (f : First) → Decided (FitsFirst f)
-first_decided (first.Basis line) = line_decided line
-first_decided (first.Limit line count) = both (line_decided line) (below count (2 ^ 64))
-
-limit_of : ℕ × ℕ → First
-limit_of z = first.Limit z.0 z.1
-
-FirstIn : First → Type 0
-FirstIn f = ((n : ℕ) × (n < 4194305) × (first.Basis n ≡ f)) ⊎ ((z : ℕ × ℕ) × ((z.0 < 4194305) × (z.1 < 2 ^ 64)) × (limit_of z ≡ f))
-
-first_in : (f : First) → FitsFirst f → FirstIn f
-unfolding FirstIn limit_of
-first_in (first.Basis line) is = inl (line, (let to = is.to in omega arith), refl)
-first_in (first.Limit line count) is = inr ((line, count), ((let to = is.0.to in omega arith), is.1), refl)
-
-pub firsts_listed : IsListed FitsFirst
-unfolding FirstIn
-firsts_listed = fewer FitsFirst FirstIn first_in (either (images first.Basis (numbers_below 4194305)) (images limit_of (pairs (numbers_below 4194305) (numbers_below (2 ^ 64)))))
 
 -- ---- words
 
@@ -174,26 +145,3 @@ rule_in h steps earlier ts r is e =
       (record { path = w.tip; short = let limit = w.tip_limit in omega arith }, ((omega (arith, long, same), tail_terms h r.tail.terms w.tail), number_below steps r.step w.named)),
       refl,
     )
-
--- ---- last lines
-
-pub end_decided : (e : End) → Decided (IsFullEnd e)
-end_decided Done = inl tt
-end_decided (Refused line NotBuilt) = line_decided line
-end_decided (Refused line (PathLimit count)) = inr (λ h. h)
-
-refused_at : ℕ → End
-refused_at line = Refused line NotBuilt
-
-EndIn : End → Type 0
-EndIn e = (e ≡ Done) ⊎ ((n : ℕ) × (n < 4194305) × (refused_at n ≡ e))
-
-end_in : (e : End) → IsFullEnd e → EndIn e
-unfolding EndIn refused_at
-end_in Done is = inl refl
-end_in (Refused line NotBuilt) is = inr (line, (let to = is.to in omega arith), refl)
-end_in (Refused line (PathLimit count)) is = absurd is
-
-pub ends_listed : IsListed IsFullEnd
-unfolding EndIn
-ends_listed = fewer IsFullEnd EndIn end_in (either (just Done) (images refused_at (numbers_below 4194305)))

@@ -8,7 +8,7 @@ use Rattle.header_text.specs.Named.{IsNamed}
 use Rattle.claim_lines.specs.Spelling.{word_line, step_line, rule_line}
 use Rattle.claim_lines.specs.Items.{FitsWord, FitsStep, FitsRule}
 use Rattle.claim_lines.specs.Reading.{rule_form}
-use Rattle.claim_lines.proofs.EndReading.{tail_is}
+use Rattle.claim_lines.proofs.NumberReading.{tail_is}
 use Rattle.claim_lines.proofs.PathReading.{one_any_path}
 use Rattle.claim_lines.proofs.StepReading.{one_step}
 use Rattle.claim_lines.proofs.RuleReading.{one_rule_form, form_of_rule, rule_behind, rule_spelled}

@@ -23,7 +23,7 @@ use Rattle.header_text.specs.Reading.{ReadsFirst}
 use Rattle.header_text.proofs.Names.{path_text-trivial}
 use Rattle.header_text.proofs.Clean.{not_lacks, lacks_by_test}
 use Rattle.header_text.proofs.Uniqueness.{decimal_one}
-use Rattle.claim_types.specs.Lawful.{IsWrittenRule}
+use Rattle.report_types.specs.BasisBlocks.{IsWrittenRule}
 use Rattle.claim_lines.specs.Spelling.{tail_form, rule_line}
 use Rattle.claim_lines.specs.Reading.{IsTailTerm, AreTailTerms, separated, tail_then_by, rule_form, IsRuleForm, HasLimits}
 use Rattle.claim_lines.proofs.PathReading.{cases_nil, long_begins, one_any_path, one_tail_term}

@@ -1,7 +1,9 @@
 -- What the readers of pieces of a line answer.
-use Rattle.std.specs.Prelude.{ℕ, ◌≡◌, ◌≢◌, ◌<◌, ◌≤◌, ◌^◌, Bool, true, false, List, [], ◌∷◌, ◌++◌, codes, All, AllPairs, decimal, Some, None}
+use Rattle.std.specs.Prelude.{ℕ, ⊤, ◌≡◌, ◌≢◌, ◌<◌, ◌≤◌, Bool, true, false, List, [], ◌∷◌, ◌++◌, codes, All, AllPairs, decimal, Some, None}
 use Rattle.std.specs.declared.option.Option.{Option}
 use Rattle.linear_algebra.specs.Field.{order}
+use Rattle.quiver_paths.specs.declared.names.Suffix.{Suffix}
+use Rattle.quiver_paths.specs.declared.names.Suffix.TheVariants as suffix
 use Rattle.quiver_paths.specs.declared.Quiver.{Quiver}
 use Rattle.quiver_paths.specs.Path.{IsPath, path_length}
 use Rattle.quiver_paths.specs.PathOrder.{IsSmaller}
@@ -11,7 +13,9 @@ use Rattle.path_algebra.specs.declared.Header.{Header}
 use Rattle.path_algebra.specs.declared.rules.Rule.{Rule}
 use Rattle.path_algebra.specs.Derivations.{IsNumber}
 use Rattle.header_text.specs.Spelling.{path_text, term_text}
-use Rattle.claim_types.specs.Limits.{length_limit, IsLine}
+use Rattle.report_types.specs.Limits.{length_limit, part_limit}
+use Rattle.claim_lines.specs.declared.heads.Head.{Head}
+use Rattle.claim_lines.specs.declared.heads.Head.TheVariants as head
 use Rattle.claim_lines.specs.Spelling.{tail_form}
 use Rattle.claim_lines.specs.Items.{IsCount, counted}
 
@@ -77,7 +81,40 @@ pub record HasLimits (h : Header) (rule : Rule) : Type 0 where
   pub descending : AllPairs (λ (a b : Term). IsSmaller b.path a.path) rule.tail.terms
   pub short : All (λ (t : Term). path_length t.path < h.bound) rule.tail.terms
 
--- a line of a script, and a number that fits 64 bits
-pub record IsLineAndCount (line count : ℕ) : Type 0 where
-  pub is_line : IsLine line
-  pub fits : count < 2 ^ 64
+-- a word with which no claim on objects alone begins, and no decomposition
+pub record IsNoFirstWord (w : List ℕ) : Type 0 where
+  pub decomposition : w ≢ codes "decomposition"
+  pub basis : w ≢ codes "basis"
+  pub is_module : w ≢ codes "module"
+  pub is_map : w ≢ codes "map"
+  pub hom : w ≢ codes "hom"
+  pub kernel : w ≢ codes "kernel"
+  pub cokernel : w ≢ codes "cokernel"
+  pub radical : w ≢ codes "radical"
+
+-- extensions, a decomposition, a translate or an almost split sequence
+abbrev pub IsLong : Head → Type 0
+IsLong (head.Ext n a b count c) = ⊤
+IsLong (head.Decomposition a s f g parts) = ⊤
+IsLong (head.Translate which n a c) = ⊤
+IsLong (head.AlmostSplit n e a f g c l) = ⊤
+IsLong x = ⊥
+
+-- what can stand behind the dot of a reference
+abbrev pub IsDotted : Suffix → Type 0
+IsDotted suffix.Whole = ⊥
+IsDotted suffix.Map = ⊤
+IsDotted suffix.Inv = ⊤
+IsDotted (suffix.Part k) = IsNumber part_limit k
+
+-- a word with which no cause begins that names a number, a name, an arrow or a path
+pub record IsNoLongCause (w : List ℕ) : Type 0 where
+  pub bound_fails : w ≢ codes "BoundFails"
+  pub unknown_name : w ≢ codes "UnknownName"
+  pub name_taken : w ≢ codes "NameTaken"
+  pub relation_fails : w ≢ codes "RelationFails"
+  pub not_hom : w ≢ codes "NotHom"
+  pub dim_limit : w ≢ codes "DimLimit"
+  pub hom_limit : w ≢ codes "HomLimit"
+  pub term_limit : w ≢ codes "TermLimit"
+  pub dual_limit : w ≢ codes "DualLimit"

@@ -3,7 +3,7 @@ ghost use Rattle.std.specs.Prelude.{ℕ, ◌≡◌, ◌<◌, ◌≤◌, ◌∷�
 ghost use Rattle.std.specs.Str.Parse.{AllDigits};
 ghost use Rattle.linear_algebra.specs.Field.{order};
 ghost use Rattle.path_algebra.specs.Derivations.{IsNumber};
-ghost use Rattle.claim_types.specs.Limits.{IsLine, path_limit};
+ghost use Rattle.report_types.specs.Limits.{IsLine, path_limit};
 ghost use Rattle.header_text.specs.Reading.{Reads, ReadsFirst};
 ghost use Rattle.claim_lines.specs.Items.{IsCount, counted};
 ghost use Rattle.claim_lines.specs.Spelling.{words_line};
@@ -80,6 +80,19 @@ pub(crate) fn next_place(tokens: &mut Parts<'_>, last: u32) -> Option<u32>
     ensures { ReadsFirst (IsNumber last) (λ (n : ℕ). decimal n ∷ []) tokens.old tokens.new result }
 {
     let Some(n) = tokens.take_numeral(last as u64) else {
+        return None;
+    };
+    if n == 0 {
+        return None;
+    }
+    Some(n as u32)
+}
+
+/// The line of a script whose number is the next token.
+pub(crate) fn next_line(tokens: &mut Parts<'_>) -> Option<u32>
+    ensures { ReadsFirst IsLine (λ (n : ℕ). decimal n ∷ []) tokens.old tokens.new result }
+{
+    let Some(n) = tokens.take_numeral(4_194_304) else {
         return None;
     };
     if n == 0 {

@@ -1,63 +1,187 @@
-//! Reading the first line behind the header and the last line.
-ghost use Rattle.std.specs.Prelude.{ℕ, ◌≡◌, ◌<◌, ◌≤◌, ◌^◌, ◌∷◌, [], List, codes, decimal, IsTrue, ◌↔◌};
-ghost use Rattle.claim_types.specs.Limits.{IsLine};
-ghost use Rattle.claim_types.specs.Lawful.{IsFullEnd};
-ghost use Rattle.claim_types.specs.declared.reports.End.{End};
-ghost use Rattle.header_text.specs.Reading.{Reads, ReadsFirst};
-ghost use Rattle.claim_lines.specs.declared.ends.First.{First};
-ghost use Rattle.claim_lines.specs.Spelling.{end_line};
-ghost use Rattle.claim_lines.specs.Items.{FitsFirst, first_line};
-ghost use Rattle.claim_lines.specs.Reading.{IsLineAndCount};
+//! Reading the last line.
+ghost use Rattle.std.specs.Prelude.{ℕ, ◌≡◌, ◌≢◌, ◌<◌, ◌^◌, ◌∷◌, [], List, length, codes, decimal, IsTrue, ◌↔◌, IfOk};
+ghost use Rattle.report_types.specs.Ends.{IsWhy, IsFullEnd, IsEmptyEnd};
+ghost use Rattle.report_types.specs.Limits.{IsLine};
+ghost use Rattle.report_types.specs.declared.reports.Why.{Why as Cause};
+ghost use Rattle.header_text.specs.Named.{IsNamed};
+ghost use Rattle.header_text.specs.Reading.{Reads};
+ghost use Rattle.claim_lines.specs.Spelling.{why_form, end_line};
+ghost use Rattle.claim_lines.specs.Items.{FitsEnd};
+ghost use Rattle.claim_lines.specs.Reading.{IsNoLongCause};
 
-use claim_types::{End, Why};
+use crate::causes::{
+    bound_fails, decomposable_why, dim_why, dual_why, hom_why, name_taken, not_built_why, not_hom,
+    only_wide, projective_why, relation_why, shape_why, side_why, term_why, unknown_name, zero_why,
+};
+use crate::counts::next_line;
 use header_text::only_number;
+use path_algebra::Header;
+use report_types::{End, Why};
+use std::alloc::{AllocError, Global};
 use text_lines::Parts;
 
-/// What the first line behind the header says: the claim of a basis, or the refusal of too many paths.
-#[derive(Clone, Copy, Drop)]
-pub enum First {
-    Basis { line: u32 },
-    Limit { line: u32, count: u64 },
-}
-
-/// The line of a script whose number is the next token.
-fn next_line(tokens: &mut Parts<'_>) -> Option<u32>
-    ensures { ReadsFirst IsLine (λ (n : ℕ). decimal n ∷ []) tokens.old tokens.new result }
+/// The cause that is a word alone.
+fn bare_why(word: &[u8], header: &Header, tokens: Parts<'_>) -> Option<Why>
+    requires few { length header.now.relations < 2 ^ 32 }
+    requires short { IsNoLongCause word.now }
+    ensures { Reads (IsWhy header.now) (why_form header.now) (word.now ∷ tokens.entry) result }
 {
-    let Some(n) = tokens.take_numeral(4_194_304) else {
-        return None;
-    };
-    if n == 0 {
-        return None;
+    if word == b"NotBuilt".as_slice() {
+        return not_built_why(header, tokens);
     }
-    Some(n as u32)
+    if word == b"Side".as_slice() {
+        return side_why(header, tokens);
+    }
+    if word == b"Shape".as_slice() {
+        return shape_why(header, tokens);
+    }
+    if word == b"Zero".as_slice() {
+        return zero_why(header, tokens);
+    }
+    if word == b"Decomposable".as_slice() {
+        return decomposable_why(header, tokens);
+    }
+    if word == b"Projective".as_slice() {
+        return projective_why(header, tokens);
+    }
+    None
 }
 
-/// The line of a claim on a basis, whose tokens behind the first these are.
-fn basis_form(tokens: Parts<'_>) -> Option<u32>
-    ensures { Reads IsLine (λ (n : ℕ). codes "1" ∷ codes "line" ∷ decimal n ∷ codes "basis" ∷ []) tokens.entry result }
+/// The cause, if it is no path.
+fn plain_why(word: &[u8], header: &Header, tokens: Parts<'_>) -> Option<Why>
+    requires few { length header.now.relations < 2 ^ 32 }
+    requires named { IsNamed header.now.quiver }
+    requires other { word.now ≢ codes "BoundFails" }
+    ensures { Reads (IsWhy header.now) (why_form header.now) (word.now ∷ tokens.entry) result }
+{
+    if word == b"UnknownName".as_slice() {
+        return unknown_name(header, tokens);
+    }
+    if word == b"NameTaken".as_slice() {
+        return name_taken(header, tokens);
+    }
+    if word == b"RelationFails".as_slice() {
+        return relation_why(header, tokens);
+    }
+    if word == b"NotHom".as_slice() {
+        return not_hom(header, tokens);
+    }
+    if word == b"DimLimit".as_slice() {
+        return dim_why(header, tokens);
+    }
+    if word == b"HomLimit".as_slice() {
+        return hom_why(header, tokens);
+    }
+    if word == b"TermLimit".as_slice() {
+        return term_why(header, tokens);
+    }
+    if word == b"DualLimit".as_slice() {
+        return dual_why(header, tokens);
+    }
+    bare_why(word, header, tokens)
+}
+
+/// The cause of a refusal.
+fn read_why(alloc: Global, header: &Header, tokens: Parts<'_>) -> Result<Option<Why>, AllocError>
+    requires few { length header.now.relations < 2 ^ 32 }
+    requires named { IsNamed header.now.quiver }
+    ensures { IfOk result (λ r. Reads (IsWhy header.now) (why_form header.now) tokens.entry r) }
 {
     let mut tokens = tokens;
-    if !tokens.take_word(b"1") || !tokens.take_word(b"line") {
-        return None;
+    let Some(word) = tokens.next_part() else {
+        return Ok(None);
+    };
+    if word == b"BoundFails".as_slice() {
+        let why = bound_fails(alloc, header, tokens)?;
+        return Ok(why);
     }
-    line_then_basis(tokens)
+    Ok(plain_why(word, header, tokens))
 }
 
-fn line_then_basis(tokens: Parts<'_>) -> Option<u32>
-    ensures { Reads IsLine (λ (n : ℕ). decimal n ∷ codes "basis" ∷ []) tokens.entry result }
+/// The line of the script and the cause.
+fn line_and_why(
+    alloc: Global,
+    header: &Header,
+    tokens: Parts<'_>,
+) -> Result<Option<(u32, Why)>, AllocError>
+    requires few { length header.now.relations < 2 ^ 32 }
+    requires named { IsNamed header.now.quiver }
+    ensures { IfOk result (λ r. Reads (λ (x : ℕ × Cause). IsLine x.0 × IsWhy header.now x.1) (λ (x : ℕ × Cause). decimal x.0 ∷ why_form header.now x.1) tokens.entry r) }
 {
     let mut tokens = tokens;
     let Some(line) = next_line(&mut tokens) else {
-        return None;
+        return Ok(None);
     };
-    if !tokens.take_word(b"basis") || !tokens.is_done() {
-        return None;
-    }
-    Some(line)
+    let Some(why) = read_why(alloc, header, tokens)? else {
+        return Ok(None);
+    };
+    Ok(Some((line, why)))
 }
 
-/// The number of paths, too many, whose tokens these are.
+/// The number that is all that is left, if it is this one.
+fn only_this(claims: u32, tokens: Parts<'_>) -> bool
+    ensures { IsTrue result ↔ (tokens.entry ≡ decimal claims ∷ []) }
+{
+    let Some(n) = only_number(tokens, claims as u64) else {
+        return false;
+    };
+    if n != claims as u64 {
+        return false;
+    }
+    true
+}
+
+fn done_end(header: &Header, claims: u32, tokens: Parts<'_>) -> Option<End>
+    ensures { Reads (IsFullEnd header.now) (end_line header.now claims) (codes "end" ∷ tokens.entry) result }
+{
+    if !only_this(claims, tokens) {
+        return None;
+    }
+    Some(End::Done)
+}
+
+fn refused_end(
+    alloc: Global,
+    header: &Header,
+    claims: u32,
+    tokens: Parts<'_>,
+) -> Result<Option<End>, AllocError>
+    requires few { length header.now.relations < 2 ^ 32 }
+    requires named { IsNamed header.now.quiver }
+    ensures { IfOk result (λ r. Reads (IsFullEnd header.now) (end_line header.now claims) (codes "refused" ∷ tokens.entry) r) }
+{
+    let Some((line, why)) = line_and_why(alloc, header, tokens)? else {
+        return Ok(None);
+    };
+    Ok(Some(End::Refused { line, why }))
+}
+
+/// The last line behind at least one claim.
+fn read_full_end(
+    alloc: Global,
+    header: &Header,
+    claims: u32,
+    tokens: Parts<'_>,
+) -> Result<Option<End>, AllocError>
+    requires few { length header.now.relations < 2 ^ 32 }
+    requires named { IsNamed header.now.quiver }
+    ensures { IfOk result (λ r. Reads (IsFullEnd header.now) (end_line header.now claims) tokens.entry r) }
+{
+    let mut tokens = tokens;
+    let Some(word) = tokens.next_part() else {
+        return Ok(None);
+    };
+    if word == b"end".as_slice() {
+        return Ok(done_end(header, claims, tokens));
+    }
+    if word == b"refused".as_slice() {
+        let end = refused_end(alloc, header, claims, tokens)?;
+        return Ok(end);
+    }
+    Ok(None)
+}
+
+/// The number of paths, too many.
 fn count_form(tokens: Parts<'_>) -> Option<u64>
     ensures { Reads (λ (n : ℕ). n < 2 ^ 64) (λ (n : ℕ). codes "PathLimit" ∷ decimal n ∷ []) tokens.entry result }
 {
@@ -65,14 +189,17 @@ fn count_form(tokens: Parts<'_>) -> Option<u64>
     if !tokens.take_word(b"PathLimit") {
         return None;
     }
-    only_number(tokens, u64::MAX)
+    only_wide(tokens)
 }
 
-/// The line and the number of paths of a refusal, whose tokens behind the first these are.
+/// The line of the script and the number of paths.
 fn limit_form(tokens: Parts<'_>) -> Option<(u32, u64)>
-    ensures { Reads (λ (x : ℕ × ℕ). IsLineAndCount x.0 x.1) (λ (x : ℕ × ℕ). decimal x.0 ∷ codes "PathLimit" ∷ decimal x.1 ∷ []) tokens.entry result }
+    ensures { Reads (λ (x : ℕ × ℕ). IsLine x.0 × (x.1 < 2 ^ 64)) (λ (x : ℕ × ℕ). codes "refused" ∷ decimal x.0 ∷ codes "PathLimit" ∷ decimal x.1 ∷ []) tokens.entry result }
 {
     let mut tokens = tokens;
+    if !tokens.take_word(b"refused") {
+        return None;
+    }
     let Some(line) = next_line(&mut tokens) else {
         return None;
     };
@@ -82,99 +209,35 @@ fn limit_form(tokens: Parts<'_>) -> Option<(u32, u64)>
     Some((line, count))
 }
 
-fn basis_first(tokens: Parts<'_>) -> Option<First>
-    ensures { Reads FitsFirst first_line (codes "claim" ∷ tokens.entry) result }
-{
-    let Some(line) = basis_form(tokens) else {
-        return None;
-    };
-    Some(First::Basis { line })
-}
-
-fn limit_first(tokens: Parts<'_>) -> Option<First>
-    ensures { Reads FitsFirst first_line (codes "refused" ∷ tokens.entry) result }
+/// The last line where there is no claim.
+fn read_empty_end(header: &Header, tokens: Parts<'_>) -> Option<End>
+    ensures { Reads IsEmptyEnd (end_line header.now 0) tokens.entry result }
 {
     let Some((line, count)) = limit_form(tokens) else {
         return None;
     };
-    Some(First::Limit { line, count })
-}
-
-/// Reads the tokens of the first line behind the header: the line of claim 1, a basis, or a refusal for too many paths.
-/// `None`: they are neither.
-pub fn read_first(tokens: Parts<'_>) -> Option<First>
-    ensures { Reads FitsFirst first_line tokens.entry result }
-{
-    let mut tokens = tokens;
-    let Some(word) = tokens.next_part() else {
-        return None;
-    };
-    if word == b"claim".as_slice() {
-        return basis_first(tokens);
-    }
-    if word == b"refused".as_slice() {
-        return limit_first(tokens);
-    }
-    None
-}
-
-/// The line of a refused statement that is not built, whose tokens behind the first these are.
-fn not_built_form(tokens: Parts<'_>) -> Option<u32>
-    ensures { Reads IsLine (λ (n : ℕ). decimal n ∷ codes "NotBuilt" ∷ []) tokens.entry result }
-{
-    let mut tokens = tokens;
-    let Some(line) = next_line(&mut tokens) else {
-        return None;
-    };
-    if !tokens.take_word(b"NotBuilt") || !tokens.is_done() {
-        return None;
-    }
-    Some(line)
-}
-
-/// Whether the tokens are one `1`.
-fn is_one(tokens: Parts<'_>) -> bool
-    ensures { IsTrue result ↔ (tokens.entry ≡ codes "1" ∷ []) }
-{
-    let mut tokens = tokens;
-    tokens.take_word(b"1") && tokens.is_done()
-}
-
-fn done_end(tokens: Parts<'_>) -> Option<End>
-    ensures { Reads IsFullEnd (end_line 1) (codes "end" ∷ tokens.entry) result }
-{
-    if !is_one(tokens) {
-        return None;
-    }
-    Some(End::Done)
-}
-
-fn refused_end(tokens: Parts<'_>) -> Option<End>
-    ensures { Reads IsFullEnd (end_line 1) (codes "refused" ∷ tokens.entry) result }
-{
-    let Some(line) = not_built_form(tokens) else {
-        return None;
-    };
     Some(End::Refused {
         line,
-        why: Why::NotBuilt,
+        why: Why::PathLimit { count },
     })
 }
 
-/// Reads the tokens of the last line behind one claim: that all was answered, or the refusal of a statement that is not built.
-/// `None`: they are neither.
-pub fn read_end(tokens: Parts<'_>) -> Option<End>
-    ensures { Reads IsFullEnd (end_line 1) tokens.entry result }
+/// Reads the tokens of the last line of a report with so many claims: that all was answered, or what was refused and why. Where there is no claim, there are
+/// too many paths.
+/// `Ok(None)`: they spell no such line, or name a relation, an arrow or a path that the header does not have. `Err`: memory is wanting.
+pub fn read_end(
+    alloc: Global,
+    header: &Header,
+    claims: u32,
+    tokens: Parts<'_>,
+) -> Result<Option<End>, AllocError>
+    requires few { length header.now.relations < 2 ^ 32 }
+    requires named { IsNamed header.now.quiver }
+    ensures { IfOk result (λ r. Reads (FitsEnd header.now claims) (end_line header.now claims) tokens.entry r) }
 {
-    let mut tokens = tokens;
-    let Some(word) = tokens.next_part() else {
-        return None;
-    };
-    if word == b"end".as_slice() {
-        return done_end(tokens);
+    if claims == 0 {
+        return Ok(read_empty_end(header, tokens));
     }
-    if word == b"refused".as_slice() {
-        return refused_end(tokens);
-    }
-    None
+    let end = read_full_end(alloc, header, claims, tokens)?;
+    Ok(end)
 }

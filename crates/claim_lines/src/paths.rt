@@ -80,7 +80,11 @@ pub(crate) fn next_path(
 }
 
 /// The path that is spelled by all that is left.
-fn only_path(alloc: Global, quiver: &Quiver, tokens: Parts<'_>) -> Result<Option<Path>, AllocError>
+pub(crate) fn only_path(
+    alloc: Global,
+    quiver: &Quiver,
+    tokens: Parts<'_>,
+) -> Result<Option<Path>, AllocError>
     requires { IsNamed quiver.now }
     ensures { IfOk result (λ r. Reads (IsPath quiver.now) (λ (p : Path). path_text quiver.now p ∷ []) tokens.entry r) }
 {

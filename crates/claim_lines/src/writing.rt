@@ -3,9 +3,8 @@ ghost use Rattle.std.specs.Prelude.{◌≡◌, ◌++◌, ◌∷◌, [], OnOk, de
 ghost use Rattle.text_lines.specs.Strict.{strict_line};
 ghost use Rattle.text_lines.specs.Parts.{joined};
 ghost use Rattle.header_text.specs.Spelling.{arrow_name};
-ghost use Rattle.claim_lines.specs.Spelling.{basis_line, word_line, step_form, step_line, tail_form, rule_line, why_form, end_line};
+ghost use Rattle.claim_lines.specs.Spelling.{word_line, step_form, step_line, tail_form, rule_line};
 
-use claim_types::{End, Why};
 use header_text::{arrow_text, push_path, push_terms};
 use path_algebra::{Rule, Step, Term};
 use quiver_paths::{Path, Quiver};
@@ -13,7 +12,7 @@ use std::alloc::AllocError;
 use text_lines::push_numeral;
 
 /// Adds a space and the numeral of a number.
-fn push_number(out: &mut Vec<u8>, n: u64) -> Result<(), AllocError>
+pub(crate) fn push_number(out: &mut Vec<u8>, n: u64) -> Result<(), AllocError>
     ensures { OnOk result (out.new.items ≡ out.old.items ++ 32 ∷ decimal n) }
 {
     out.push(b' ')?;
@@ -32,23 +31,15 @@ pub fn push_count(out: &mut Vec<u8>, word: &[u8], n: u64) -> Result<(), AllocErr
 }
 
 /// Adds a space and the name of an arrow.
-fn push_arrow_name(out: &mut Vec<u8>, quiver: &Quiver, arrow: u8) -> Result<(), AllocError>
+pub(crate) fn push_arrow_name(
+    out: &mut Vec<u8>,
+    quiver: &Quiver,
+    arrow: u8,
+) -> Result<(), AllocError>
     ensures { OnOk result (out.new.items ≡ out.old.items ++ 32 ∷ arrow_name quiver.now arrow) }
 {
     out.push(b' ')?;
     out.extend_from_slice(arrow_text(quiver, arrow))?;
-    Ok(())
-}
-
-/// Adds the line that opens claim k, a basis, which a line of the script asks for. Both numbers count from 1.
-pub fn push_basis_line(out: &mut Vec<u8>, k: u32, line: u32) -> Result<(), AllocError>
-    ensures { OnOk result (out.new.items ≡ out.old.items ++ strict_line (basis_line k line)) }
-{
-    out.extend_from_slice(b"claim")?;
-    push_number(out, k as u64)?;
-    out.extend_from_slice(b" line")?;
-    push_number(out, line as u64)?;
-    out.extend_from_slice(b" basis\n")?;
     Ok(())
 }
 
@@ -143,38 +134,4 @@ pub fn push_rule(out: &mut Vec<u8>, quiver: &Quiver, rule: &Rule) -> Result<(), 
     push_number(out, rule.step as u64)?;
     out.push(b'\n')?;
     Ok(())
-}
-
-fn push_why(out: &mut Vec<u8>, why: Why) -> Result<(), AllocError>
-    ensures { OnOk result (out.new.items ≡ out.old.items ++ joined 32 (why_form why)) }
-{
-    match why {
-        Why::NotBuilt => out.extend_from_slice(b"NotBuilt")?,
-        Why::PathLimit { count } => {
-            out.extend_from_slice(b"PathLimit")?;
-            push_number(out, count)?;
-        }
-    }
-    Ok(())
-}
-
-fn push_refused(out: &mut Vec<u8>, line: u32, why: Why) -> Result<(), AllocError>
-    ensures { OnOk result (out.new.items ≡ out.old.items ++ strict_line (codes "refused" ∷ decimal line ∷ why_form why)) }
-{
-    out.extend_from_slice(b"refused")?;
-    push_number(out, line as u64)?;
-    out.push(b' ')?;
-    push_why(out, why)?;
-    out.push(b'\n')?;
-    Ok(())
-}
-
-/// Adds the last line of a report with so many claims.
-pub fn push_end(out: &mut Vec<u8>, claims: u64, end: End) -> Result<(), AllocError>
-    ensures { OnOk result (out.new.items ≡ out.old.items ++ strict_line (end_line claims end)) }
-{
-    match end {
-        End::Done => push_count(out, b"end", claims),
-        End::Refused { line, why } => push_refused(out, line, why),
-    }
 }

@@ -1,7 +1,13 @@
-pub mod WrittenBlocks
+pub mod MatrixBlocks
+pub mod OtherLines
+pub mod Runs
+pub mod ObjectLists
 pub mod TakenLines
+pub mod CompleteObjects
+pub mod CompleteBasis
+pub mod CompleteRecords
 pub mod Reached
+pub mod SoundObjects
 pub mod SoundReading
 pub mod DecidedLines
-pub mod CompleteReading
 pub mod ReportLaws

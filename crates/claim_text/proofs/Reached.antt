@@ -8,6 +8,7 @@ use Rattle.std.proofs.lemmas.List.{map-append, length-append, get_or_append_left
 use Rattle.std.proofs.Math.Seq.{get_or-append_seam}
 use Rattle.std.proofs.lemmas.List.Elements.{All-push}
 use Rattle.quiver_paths.specs.declared.Path.{Path}
+use Rattle.quiver_paths.specs.declared.Quiver.{Quiver}
 use Rattle.path_algebra.specs.declared.Header.{Header}
 use Rattle.path_algebra.specs.declared.rules.Rule.{Rule}
 use Rattle.path_algebra.specs.declared.rules.Step.{Step}
@@ -18,19 +19,24 @@ use Rattle.path_algebra.specs.BasisClauses.{HasFactor}
 use Rattle.text_lines.specs.Numerals.{IsNumeral}
 use Rattle.text_lines.proofs.Digits.{numeral-decimal}
 use Rattle.header_text.specs.Spelling.{header_lines}
-use Rattle.claim_types.specs.Limits.{IsLine, path_limit}
-use Rattle.claim_types.specs.Lawful.{AreWords, AreWrittenSteps, IsWrittenRule, IsBasisBlock}
-use Rattle.claim_lines.specs.Spelling.{title_line, basis_line, words_line, word_line, steps_line, step_line, rules_line, rule_line}
+use Rattle.report_types.specs.Limits.{IsLine, path_limit}
+use Rattle.report_types.specs.BasisBlocks.{AreWords, AreWrittenSteps, IsWrittenRule, IsBasisBlock}
+use Rattle.claim_lines.specs.Spelling.{title_line, claim_line, words_line, word_line, steps_line, step_line, rules_line, rule_line}
+use Rattle.claim_lines.specs.declared.heads.Head.TheVariants as head
 use Rattle.claim_text.specs.Spelling.{step_lines, block_lines}
 use Rattle.claim_lines.specs.Items.{IsCount, counted, FitsWord, FitsStep, FitsRule}
-use Rattle.claim_text.proofs.WrittenBlocks.{step_lines-push}
+
+step_lines-push : (Q : Quiver) (k : ℕ) (steps : List Step) (s : Step) → step_lines Q k (steps ++ s ∷ []) ≡ step_lines Q k steps ++ step_line Q (k + length steps) s ∷ []
+step_lines-push Q k [] s = ap (λ n. step_line Q n s ∷ []) (omega arith)
+step_lines-push Q k (x ∷ steps) s =
+    ap (λ r. step_line Q k x ∷ r) (step_lines-push Q (k + 1) steps s ∙ ap (λ n. step_lines Q (k + 1) steps ++ step_line Q n s ∷ []) (omega arith))
 
 abbrev pub Lines : Type 0
 Lines = List (List (List ℕ))
 
 -- the lines up to that of the claim
 abbrev pub head_lines : Header → ℕ → Lines
-head_lines h line = title_line ∷ (header_lines h ++ basis_line 1 line ∷ [])
+head_lines h line = title_line ∷ (header_lines h ++ claim_line 1 line head.Basis ∷ [])
 
 abbrev pub words_lines : Header → ℕ → List ℕ → List Path → Lines
 words_lines h line numeral words = head_lines h line ++ words_line numeral ∷ map (word_line h.quiver) words
@@ -144,14 +150,3 @@ counted_decimal numeral k is e small =
     below : (n k : ℕ) → min n (2 ^ 32) ≡ k → k < 2 ^ 32 → n ≡ k
     below n k e small = omega (arith, e)
 
--- the whole of a report with one claim
-pub block_whole : (h : Header) (line : ℕ) (words : List Path) (steps : List Step) (rules : List Rule) (last : List (List ℕ))
-    → rules_lines h line words steps (decimal (length rules)) rules ++ last ∷ []
-    ≡ title_line ∷ (header_lines h ++ (((basis_line 1 line ∷ block_lines h.quiver words steps rules) ++ []) ++ last ∷ []))
-block_whole h line words steps rules last =
-    flat (header_lines h) (basis_line 1 line) (words_line (decimal (length words))) (map (word_line h.quiver) words) (steps_line (decimal (length steps))) (step_lines h.quiver 1 steps)
-    (rules_line (decimal (length rules))) (map (rule_line h.quiver) rules) last
-  where
-    flat : (hs : Lines) (b w : List (List ℕ)) (ws : Lines) (s : List (List ℕ)) (ss : Lines) (r : List (List ℕ)) (rs : Lines) (last : List (List ℕ))
-        → ((((title_line ∷ (hs ++ b ∷ [])) ++ w ∷ ws) ++ s ∷ ss) ++ r ∷ rs) ++ last ∷ [] ≡ title_line ∷ (hs ++ (((b ∷ w ∷ (ws ++ (s ∷ (ss ++ r ∷ rs)))) ++ []) ++ last ∷ []))
-    flat hs b w ws s ss r rs last = simp (append_assoc, append-nil)

@@ -8,15 +8,15 @@ use Rattle.path_algebra.specs.declared.rules.Step.{Step}
 use Rattle.header_text.specs.Part.{Part as HeaderPart, IsFront}
 use Rattle.header_text.specs.Reading.{Reads}
 use Rattle.header_text.proofs.Uniqueness.{decimal_one}
-use Rattle.claim_types.specs.Limits.{path_limit}
+use Rattle.report_types.specs.Limits.{path_limit}
 use Rattle.claim_lines.specs.Spelling.{words_line, word_line, step_line, rule_line}
 use Rattle.claim_lines.specs.Items.{IsCount, FitsWord, FitsStep, FitsRule}
 use Rattle.claim_lines.specs.Reading.{IsCountOf}
-use Rattle.claim_lines.proofs.EndReading.{head_is, tail_is}
+use Rattle.claim_lines.proofs.NumberReading.{head_is, tail_is}
 use Rattle.claim_lines.proofs.FittingLines.{one_fitting_word, one_fitting_step, one_fitting_rule}
 use Rattle.claim_text.specs.declared.part.Place.{Place}
 use Rattle.claim_text.specs.declared.part.Part.{Part}
-use Rattle.claim_text.specs.Part.{words_place, steps_place, rules_place, with_word_count, with_word, with_step, with_rule}
+use Rattle.claim_text.specs.Part.{words_place, steps_place, with_word_count, with_word, with_step, with_rule}
 use Rattle.claim_text.specs.Steps.{Takes}
 
 -- what was read leads to what is read with it
@@ -81,9 +81,6 @@ leads_word p n k s ws w e f g = λ i. record p { place = (e ∙ ap (words_place 
 
 pub leads_step : (p : Part) (n k : ℕ) (s : Place) (ss : List Step) (t : Step) → s ≡ steps_place n k → k ≡ length ss → ss ≡ p.steps ++ t ∷ [] → record p { place = s; steps = ss } ≡ with_step p n t
 leads_step p n k s ss t e f g = λ i. record p { place = (e ∙ ap (steps_place n) (f ∙ length-pushed p.steps ss t g)) i; steps = g i }
-
-pub leads_rule : (p : Part) (n k : ℕ) (s : Place) (rs : List Rule) (r : Rule) → s ≡ rules_place n k → k ≡ length rs → rs ≡ p.rules ++ r ∷ [] → record p { place = s; rules = rs } ≡ with_rule p n r
-leads_rule p n k s rs r e f g = λ i. record p { place = (e ∙ ap (rules_place n) (f ∙ length-pushed p.rules rs r g)) i; rules = g i }
 
 pub takes_word : (p : Part) (n : ℕ) (h : Header) (words : List Path) (tokens : List (List ℕ)) (w : Path) (next : Part) → IsFront p.front → h ≡ p.front.header → words ≡ p.words
     → Reads (FitsWord h words) (word_line h.quiver) tokens (Some w) → next ≡ with_word p n w

@@ -6,7 +6,7 @@ use Rattle.header_text.specs.Part.{Part as HeaderPart}
 use Rattle.claim_text.specs.declared.part.Place.{Place}
 use Rattle.claim_text.specs.declared.part.Place.TheVariants as place
 use Rattle.claim_text.specs.declared.part.Part.{Part}
-use Rattle.claim_text.specs.Part.{with_first, with_word_count, with_word, with_step_count, with_step, with_rule_count, with_rule, with_end}
+use Rattle.claim_text.specs.Part.{with_word_count, with_word, with_step_count, with_step, with_rule_count, with_rule, with_matrix, with_item}
 use Rattle.claim_text.specs.Steps.{Takes, TokenStep, is_header_line, StepBy, Step}
 
 same_some : {A : Type 0} (x y : A) → Some x ≡ Some y → x ≡ y
@@ -17,14 +17,15 @@ takes_one Fits spell taken ts q r a b = a.leads ∙ ap taken (b.only a.item a.fi
 
 tokens_one : (s : Place) (p : Part) (ts : List (List ℕ)) (q r : Part) → TokenStep s p ts q → TokenStep s p ts r → q ≡ r
 tokens_one place.Title p ts q r a b = a.leads ∙ sym b.leads
-tokens_one place.Header p ts q r a b = takes_one _ _ (with_first p) ts q r a.first b.first
+tokens_one place.Header p ts q r a b = takes_one _ _ (with_item p) ts q r a.first b.first
 tokens_one place.WordCount p ts q r a b = takes_one _ _ (with_word_count p) ts q r a b
 tokens_one (place.Words n) p ts q r a b = takes_one _ _ (with_word p n) ts q r a b
 tokens_one place.StepCount p ts q r a b = takes_one _ _ (with_step_count p) ts q r a b
 tokens_one (place.Steps n) p ts q r a b = takes_one _ _ (with_step p n) ts q r a b
 tokens_one place.RuleCount p ts q r a b = takes_one _ _ (with_rule_count p) ts q r a b
 tokens_one (place.Rules n) p ts q r a b = takes_one _ _ (with_rule p n) ts q r a b
-tokens_one place.Last p ts q r a b = takes_one _ _ (with_end p) ts q r a b
+tokens_one place.Between p ts q r a b = takes_one _ _ (with_item p) ts q r a b
+tokens_one (place.Matrices o) p ts q r a b = takes_one _ _ (with_matrix p o) ts q r a b
 tokens_one place.Ended p ts q r a b = absurd a
 
 step_one : (b : Bool) (p : Part) (line : List ℕ) (q r : Part) → StepBy b p line q → StepBy b p line r → q ≡ r

@@ -1,15 +1,24 @@
 -- How a report is spelled: its lines one behind the other. Each report has one spelling.
 use Rattle.std.specs.Prelude.{ℕ, ◌+◌, List, [], ◌∷◌, ◌++◌, map, length, decimal}
+use Rattle.fp_linear.specs.Matrix.{PlainMatrix}
 use Rattle.quiver_paths.specs.declared.Path.{Path}
 use Rattle.quiver_paths.specs.declared.Quiver.{Quiver}
+use Rattle.path_algebra.specs.declared.Header.{Header}
 use Rattle.path_algebra.specs.declared.rules.Rule.{Rule}
 use Rattle.path_algebra.specs.declared.rules.Step.{Step}
-use Rattle.header_text.specs.Spelling.{header_lines, text_of}
-use Rattle.claim_types.specs.declared.claims.Claim.{Claim}
-use Rattle.claim_types.specs.declared.claims.Claim.TheVariants.{Basis}
-use Rattle.claim_types.specs.declared.claims.Record.{Record}
-use Rattle.claim_types.specs.declared.reports.Report.{Report}
-use Rattle.claim_lines.specs.Spelling.{title_line, basis_line, words_line, steps_line, rules_line, word_line, step_line, rule_line, end_line}
+use Rattle.header_text.specs.Spelling.{vertex_name, arrow_name, header_lines, text_of}
+use Rattle.module_types.specs.declared.Map.{Map}
+use Rattle.module_types.specs.declared.Module.{Module}
+use Rattle.module_types.specs.declared.TermRows.{TermRows}
+use Rattle.report_types.specs.declared.claims.Claim.{Claim}
+use Rattle.report_types.specs.declared.claims.Claim.TheVariants as claim
+use Rattle.report_types.specs.declared.claims.Record.{Record}
+use Rattle.report_types.specs.declared.reports.Report.{Report}
+use Rattle.report_types.specs.Numbers.{modules_of, maps_of}
+use Rattle.object_lines.specs.Spelling.{module_line, map_line, at_lines, row_line, gen_line, phi_line, term_line, ideal_line, power_line, residue_line, left_line, middle_line}
+use Rattle.claim_lines.specs.declared.heads.Head.{Head}
+use Rattle.claim_lines.specs.declared.heads.Head.TheVariants as head
+use Rattle.claim_lines.specs.Spelling.{title_line, claim_line, words_line, steps_line, rules_line, word_line, step_line, rule_line, end_line}
 
 -- ---- the claim of a basis
 
@@ -23,40 +32,110 @@ abbrev pub block_lines : Quiver → List Path → List Step → List Rule → Li
 block_lines Q words steps rules = words_line (decimal (length words)) ∷ (map (word_line Q) words
     ++ (steps_line (decimal (length steps)) ∷ (step_lines Q 1 steps ++ (rules_line (decimal (length rules)) ∷ map (rule_line Q) rules))))
 
+-- ---- modules and maps
+
+-- matrices at the arrows, and at the vertices
+abbrev pub at_arrows : Header → List PlainMatrix → List (List (List ℕ))
+at_arrows h matrices = at_lines (arrow_name h.quiver) 0 matrices
+
+abbrev pub at_vertices : Header → List PlainMatrix → List (List (List ℕ))
+at_vertices h matrices = at_lines (vertex_name h.quiver) 0 matrices
+
+-- the lines of things in their order, each by its number, of which the first is k
+abbrev pub in_order : {X : Type 0} → (ℕ → X → List (List (List ℕ))) → ℕ → List X → List (List (List ℕ))
+in_order lines k [] = []
+in_order lines k (x ∷ xs) = lines k x ++ in_order lines (k + 1) xs
+
+-- a module and a map behind so many
+abbrev pub module_block : Header → ℕ → Module → List (List (List ℕ))
+module_block h before m = module_line (before + 1) m.side m.dims ∷ at_arrows h m.matrices
+
+abbrev pub map_block : Header → ℕ → Map → List (List (List ℕ))
+map_block h before f = map_line (before + 1) f.source f.target ∷ at_vertices h f.matrices
+
+-- the lines of modules behind so many, and of maps
+abbrev pub module_lines : Header → ℕ → List Module → List (List (List ℕ))
+module_lines h before modules = in_order (module_block h) before modules
+
+abbrev pub map_lines : Header → ℕ → List Map → List (List (List ℕ))
+map_lines h before maps = in_order (map_block h) before maps
+
+-- ---- claims
+
+-- the first line of a claim
+abbrev pub head_of : Claim → Head
+head_of (claim.Basis words steps rules) = head.Basis
+head_of (claim.Module m) = head.Module m
+head_of (claim.Map f) = head.Map f
+head_of (claim.Hom a b rows) = head.Hom a b rows.row_count
+head_of (claim.Kernel n f i) = head.Kernel n f i
+head_of (claim.Cokernel n f p) = head.Cokernel n f p
+head_of (claim.Radical n a i) = head.Radical n a i
+head_of (claim.Resolution a n terms) = head.Resolution a n
+head_of (claim.Ext n a b rows c) = head.Ext n a b rows.row_count c
+head_of (claim.Local m c ideal power residue) = head.Local m c
+head_of (claim.Decomposition a s f g parts) = head.Decomposition a s f g parts
+head_of (claim.Translate which n a c rows) = head.Translate which n a c
+head_of (claim.AlmostSplit n e a f g c l phi left middle) = head.AlmostSplit n e a f g c l
+
+-- term k of a resolution, with the rows of its generators; the terms from number k on
+abbrev pub term_block : Quiver → ℕ → TermRows → List (List (List ℕ))
+term_block Q k t = term_line Q k t.vertices ∷ map gen_line t.images
+
+abbrev pub term_lines : Quiver → ℕ → List TermRows → List (List (List ℕ))
+term_lines Q k terms = in_order (term_block Q) k terms
+
+-- the lines behind the first
+abbrev pub claim_block : Header → Claim → List (List (List ℕ))
+claim_block h (claim.Basis words steps rules) = block_lines h.quiver words steps rules
+claim_block h (claim.Module m) = []
+claim_block h (claim.Map f) = []
+claim_block h (claim.Hom a b rows) = map row_line rows.rows
+claim_block h (claim.Kernel n f i) = []
+claim_block h (claim.Cokernel n f p) = []
+claim_block h (claim.Radical n a i) = []
+claim_block h (claim.Resolution a n terms) = term_lines h.quiver 0 terms
+claim_block h (claim.Ext n a b rows c) = map row_line rows.rows
+claim_block h (claim.Local m c ideal power residue) = ideal_line ideal.row_count ∷ (map row_line ideal.rows ++ (power_line power ∷ residue_line residue ∷ []))
+claim_block h (claim.Decomposition a s f g parts) = []
+claim_block h (claim.Translate which n a c rows) = at_vertices h rows
+claim_block h (claim.AlmostSplit n e a f g c l phi left middle) = phi_line phi ∷ left_line ∷ (at_vertices h left ++ (middle_line ∷ at_vertices h middle))
+
 -- ---- records
 
--- the lines of a claim with the number k, asked for in a line of the script
-abbrev pub lines_of_claim : Quiver → ℕ → ℕ → Claim → List (List (List ℕ))
-lines_of_claim Q k line (Basis words steps rules) = basis_line k line ∷ block_lines Q words steps rules
+-- the lines of a record, behind so many modules, maps and claims
+abbrev pub record_lines : Header → (modules maps claims : ℕ) → Record → List (List (List ℕ))
+record_lines h modules maps claims r =
+    module_lines h modules r.modules ++ (map_lines h maps r.maps ++ (claim_line (claims + 1) r.line (head_of r.claim) ∷ claim_block h r.claim))
 
-abbrev pub record_lines : Quiver → ℕ → Record → List (List (List ℕ))
-record_lines Q k r = lines_of_claim Q k r.line r.claim
-
--- the lines of records, of which the first has the number k
-abbrev pub records_lines : Quiver → ℕ → List Record → List (List (List ℕ))
-records_lines Q k [] = []
-records_lines Q k (r ∷ records) = record_lines Q k r ++ records_lines Q (k + 1) records
+-- the lines of records, behind so many modules, maps and claims
+abbrev pub records_lines : Header → (modules maps claims : ℕ) → List Record → List (List (List ℕ))
+records_lines h modules maps claims [] = []
+records_lines h modules maps claims (r ∷ records) = record_lines h modules maps claims r ++ records_lines h (modules + length r.modules) (maps + length r.maps) (claims + 1) records
 
 -- ---- the whole
 
 abbrev pub report_lines : Report → List (List (List ℕ))
-report_lines r = title_line ∷ (header_lines r.header ++ (records_lines r.header.quiver 1 r.records ++ end_line (length r.records) r.end ∷ []))
+report_lines r = title_line ∷ (header_lines r.header ++ (records_lines r.header 0 0 0 r.records ++ end_line r.header (length r.records) r.end ∷ []))
 
 -- the report as bytes
 abbrev pub report_text : Report → List ℕ
 report_text r = text_of (report_lines r)
 
--- what is written before the first record, of one record, and behind the last
+-- what is written before the first record, of one record behind some records, and behind the last
 abbrev pub front_text : Report → List ℕ
 front_text r = text_of (title_line ∷ header_lines r.header)
 
-abbrev pub record_text : Quiver → ℕ → Record → List ℕ
-record_text Q k r = text_of (record_lines Q k r)
+abbrev pub record_text : Header → (modules maps claims : ℕ) → Record → List ℕ
+record_text h modules maps claims r = text_of (record_lines h modules maps claims r)
 
--- the texts of records, of which the first has the number k
-abbrev pub records_text : Quiver → ℕ → List Record → List ℕ
-records_text Q k [] = []
-records_text Q k (r ∷ records) = record_text Q k r ++ records_text Q (k + 1) records
+abbrev pub text_behind : Header → List Record → Record → List ℕ
+text_behind h before r = record_text h (length (modules_of before)) (length (maps_of before)) (length before) r
+
+-- the texts of records, behind so many modules, maps and claims
+abbrev pub records_text : Header → (modules maps claims : ℕ) → List Record → List ℕ
+records_text h modules maps claims [] = []
+records_text h modules maps claims (r ∷ records) = record_text h modules maps claims r ++ records_text h (modules + length r.modules) (maps + length r.maps) (claims + 1) records
 
 abbrev pub end_text : Report → List ℕ
-end_text r = text_of (end_line (length r.records) r.end ∷ [])
+end_text r = text_of (end_line r.header (length r.records) r.end ∷ [])

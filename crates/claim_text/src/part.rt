@@ -1,13 +1,22 @@
 //! What has been read of a report.
 
-use claim_lines::Words;
-use claim_types::End;
+use claim_lines::{Head, Words};
 use header_text::HeaderReader;
+use fp_linear::Matrix;
+use module_types::{Map, Module, Side};
 use path_algebra::{Rule, Step};
+use report_types::{End, Record};
 use seq::Seq;
 
+/// What the matrices of lines belong to: a module of this side, or a map from a module to another.
+#[derive(Clone, Copy, Drop)]
+pub enum Owner {
+    Module { side: Side },
+    Map { source: u32, target: u32 },
+}
+
 /// Where a report stands: before its title, among the lines of its header, before the number of words, among so many words,
-/// and so on to its last line and behind it.
+/// and so on to the end of the basis; between whole objects and claims; among matrices; behind its last line.
 #[derive(Clone, Copy, Drop)]
 pub enum Place {
     Title,
@@ -18,11 +27,12 @@ pub enum Place {
     Steps(u64),
     RuleCount,
     Rules(u64),
-    Last,
+    Between,
+    Matrices(Owner),
     Ended,
 }
 
-/// What has been read of a report. The line is that of the claim, and 0 before it is read.
+/// What has been read of a report: whole records, the objects of the record that is being read, and what was read of an object or of a basis.
 #[derive(Drop)]
 pub struct Part {
     pub front: HeaderReader,
@@ -31,5 +41,19 @@ pub struct Part {
     pub words: Words,
     pub steps: Seq<Step>,
     pub rules: Seq<Rule>,
+    pub records: Seq<Record>,
+    pub modules: Seq<Module>,
+    pub maps: Seq<Map>,
+    pub dims: Seq<u32>,
+    pub matrices: Seq<Matrix>,
     pub end: End,
+}
+
+/// What may follow whole objects and claims: the first line of a module, a map or a claim, or the last line.
+#[derive(Drop)]
+pub enum Item {
+    Module { side: Side, dims: Seq<u32> },
+    Map { source: u32, target: u32 },
+    Claim { line: u32, head: Head },
+    End { end: End },
 }

@@ -1,7 +1,7 @@
 -- The record of a basis, from what the reduced rules are known to be.
-use Rattle.std.proofs.Common.{◌≢◌, ◌<◌, ◌≤◌, ◌^◌, List, length, refl, sym, subst, arith}
+use Rattle.std.proofs.Common.{◌≡◌, ◌≢◌, ◌<◌, ◌≤◌, ◌^◌, List, [], ◌∷◌, length, refl, sym, subst, arith}
 use Rattle.std.specs.Prelude.{Contains, AllPairs, slice_index_or}
-use Rattle.std.proofs.lemmas.List.Elements.{All-contains, All-contains_itself, All-weaker}
+use Rattle.std.proofs.lemmas.List.Elements.{All-nil, All-contains, All-contains_itself, All-weaker}
 use Rattle.quiver_paths.specs.declared.Path.{Path}
 use Rattle.quiver_paths.specs.Path.{IsPath}
 use Rattle.quiver_paths.specs.PathOrder.{IsSmaller}
@@ -17,8 +17,10 @@ use Rattle.path_algebra.specs.Derivations.{IsNumber}
 use Rattle.path_algebra.specs.BasisClauses.{IsBasisClaim, MeetsClauses, RuleHolds}
 use Rattle.script_types.specs.declared.Script.{Script}
 use Rattle.script_types.specs.Lawful.{IsLawful}
-use Rattle.claim_types.specs.declared.claims.Claim.TheVariants.{Basis}
-use Rattle.claim_types.specs.Lawful.{AreWords, IsWrittenRule, IsBasisBlock}
+use Rattle.report_types.specs.declared.claims.Claim.TheVariants.{Basis}
+use Rattle.report_types.specs.declared.claims.Record.{Record}
+use Rattle.report_types.specs.BasisBlocks.{AreWords, IsWrittenRule, IsBasisBlock}
+use Rattle.report_types.specs.Lawful.{IsModuleBlock, IsMapBlock}
 use Rattle.script_run.specs.Records.{IsRightRecord}
 
 module _ (h : Header) (words : List Path) (steps : List Step) (rules : List Rule) (ok : IsAllowed h) (claim : IsBasisClaim h words steps rules) (meets : MeetsClauses h words steps rules)
@@ -55,15 +57,28 @@ module _ (h : Header) (words : List Path) (steps : List Step) (rules : List Rule
 
 pub right_record : (script : Script) (words : List Path) (steps : List Step) (rules : List Rule) → IsLawful script → path_count script.header.quiver script.header.bound ≤ 4096
     → IsBasisClaim script.header words steps rules → MeetsClauses script.header words steps rules → length steps < 2 ^ 32 → length rules ≤ 4096
-    → IsRightRecord script (record { line = script.basis_line; claim = Basis words steps rules })
+    → IsRightRecord script (record { line = script.basis_line; modules = []; maps = []; claim = Basis words steps rules })
 right_record script words steps rules lawful few claim meets few_steps few_rules =
     let from = lawful.order.bound in
     let later = lawful.order.basis in
+    let r : Record = record { line = script.basis_line; modules = []; maps = []; claim = Basis words steps rules } in
     record {
-      answers = record { few = few; line = refl; claim = tt };
+      answers = record { few = few; line = refl; prints = record { modules = refl; maps = refl }; claims = tt };
       lawful = record {
         line = record { from = omega arith; to = lawful.order.basis_limit };
+        modules = All-nil (IsModuleBlock script.header);
+        maps = All-nil (IsMapBlock script.header (r ∷ []));
+        place = (refl, refl, refl);
         claim = written_block script.header words steps rules lawful.header claim meets few_steps few_rules;
       };
-      conditions = λ report same. subst (λ h. MeetsClauses h words steps rules) (sym same) meets;
+      conditions = λ n. (meets.step, (meets.rule, (meets.reduced, (meets.word, (meets.action, tt)))));
     }
+
+-- the same of each record that is made of these parts
+pub right_record_of : (script : Script) (r : Record) (words : List Path) (steps : List Step) (rules : List Rule) → IsLawful script
+    → path_count script.header.quiver script.header.bound ≤ 4096 → IsBasisClaim script.header words steps rules → MeetsClauses script.header words steps rules
+    → length steps < 2 ^ 32 → length rules ≤ 4096 → r.line ≡ script.basis_line → r.modules ≡ [] → r.maps ≡ [] → r.claim ≡ Basis words steps rules → IsRightRecord script r
+right_record_of script r words steps rules lawful few claim meets few_steps few_rules line modules maps claimed =
+    let same : r ≡ record { line = script.basis_line; modules = []; maps = []; claim = Basis words steps rules } =
+    λ i. record { line = line i; modules = modules i; maps = maps i; claim = claimed i } in
+    subst (IsRightRecord script) (sym same) (right_record script words steps rules lawful few claim meets few_steps few_rules)

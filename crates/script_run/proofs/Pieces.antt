@@ -1,6 +1,6 @@
 -- What the sink took of a report, piece by piece.
 use Rattle.std.proofs.Common.{ℕ, ◌≡◌, ◌⊎◌, ◌≤◌, ◌-◌, List, [], ◌∷◌, ◌++◌, length, inl, inr, refl, sym, ap, ◌∙◌, subst, append_assoc, append-nil, arith}
-use Rattle.std.specs.Prelude.{slice_index_or}
+use Rattle.std.specs.Prelude.{slice_index_or, take}
 use Rattle.std.specs.declared.option.Option.{Option}
 use Rattle.quiv_io.specs.Bytes.{Takes, TakesFront}
 use Rattle.quiv_io.specs.Counts.{Rose}
@@ -8,11 +8,11 @@ use Rattle.quiv_io.proofs.Joined.{Takes-append}
 use Rattle.path_algebra.specs.declared.Header.{Header}
 use Rattle.script_types.specs.declared.Script.{Script}
 use Rattle.script_types.specs.Lawful.{IsLawful}
-use Rattle.claim_types.specs.declared.claims.Record.{Record}
-use Rattle.claim_types.specs.declared.reports.Report.{Report}
-use Rattle.claim_types.specs.declared.reports.End.{End}
-use Rattle.claim_types.specs.declared.reports.End.TheVariants as end
-use Rattle.claim_text.specs.Spelling.{front_text, record_text, records_text, end_text, report_text}
+use Rattle.report_types.specs.declared.claims.Record.{Record}
+use Rattle.report_types.specs.declared.reports.Report.{Report}
+use Rattle.report_types.specs.declared.reports.End.{End}
+use Rattle.report_types.specs.declared.reports.End.TheVariants as end
+use Rattle.claim_text.specs.Spelling.{front_text, text_behind, records_text, end_text, report_text}
 use Rattle.claim_text.proofs.ReportLaws.{report_pieces}
 use Rattle.script_run.specs.declared.ends.RunEnd.{RunEnd}
 use Rattle.script_run.specs.declared.ends.RunEnd.TheVariants as run
@@ -39,7 +39,7 @@ halts_for_memory script report start now reached =
 
 empty_text : (h : Header) (rs : List Record) (e : End) → rs ≡ [] → begun_text (record { header = h; records = rs; end = e }) ≡ front_text (record { header = h; records = rs; end = e })
 empty_text h rs e empty =
-    ap (λ l. front_text (record { header = h; records = rs; end = e }) ++ records_text h.quiver 1 l) empty ∙ append-nil (front_text (record { header = h; records = rs; end = e }))
+    ap (λ l. front_text (record { header = h; records = rs; end = e }) ++ records_text h 0 0 0 l) empty ∙ append-nil (front_text (record { header = h; records = rs; end = e }))
 
 pub front_reached : (script : Script) (h : Header) (rs : List Record) (e : End) (text : List ℕ) (start now : Option (List ℕ)) → IsLawful script → h ≡ script.header → rs ≡ []
     → text ≡ front_text (record { header = h; records = rs; end = e }) → Takes start text now → IsReached script (record { header = h; records = rs; end = e }) start now
@@ -62,15 +62,15 @@ front_faulty script h text start now old new lawful same written front rose =
 -- ---- the first record
 
 first_text : (h : Header) (rs ss : List Record) (first : Record) (e : End) → rs ≡ [] → ss ≡ first ∷ []
-    → begun_text (record { header = h; records = ss; end = e }) ≡ begun_text (record { header = h; records = rs; end = e }) ++ record_text h.quiver 1 first
+    → begun_text (record { header = h; records = ss; end = e }) ≡ begun_text (record { header = h; records = rs; end = e }) ++ text_behind h [] first
 first_text h rs ss first e empty one =
     let front = front_text (record { header = h; records = []; end = e }) in
-    ap (λ l. front ++ records_text h.quiver 1 l) one
-    ∙ (ap (λ t. front ++ t) (append-nil (record_text h.quiver 1 first))
-    ∙ ap (λ t. t ++ record_text h.quiver 1 first) (sym (append-nil front) ∙ sym (ap (λ l. front ++ records_text h.quiver 1 l) empty)))
+    ap (λ l. front ++ records_text h 0 0 0 l) one
+    ∙ (ap (λ t. front ++ t) (append-nil (text_behind h [] first))
+    ∙ ap (λ t. t ++ text_behind h [] first) (sym (append-nil front) ∙ sym (ap (λ l. front ++ records_text h 0 0 0 l) empty)))
 
 module _ (script : Script) (report : Report) (first : Record) (ss : List Record) (text : List ℕ) (lawful : IsLawful script) (right : IsRightRecord script first)
-    (same : report.header ≡ script.header) (empty : report.records ≡ []) (one : ss ≡ first ∷ []) (written : text ≡ record_text report.header.quiver 1 first) where
+    (same : report.header ≡ script.header) (empty : report.records ≡ []) (one : ss ≡ first ∷ []) (written : text ≡ text_behind report.header [] first) where
   pub first_reached : (start mid now : Option (List ℕ)) → IsReached script report start mid → Takes mid text now
       → IsReached script (record { header = report.header; records = ss; end = report.end }) start now
   first_reached start mid now reached takes = record {
@@ -99,7 +99,7 @@ whole_text : (h : Header) (rs : List Record) (e last : End)
     → report_text (record { header = h; records = rs; end = last }) ≡ begun_text (record { header = h; records = rs; end = e }) ++ end_text (record { header = h; records = rs; end = last })
 whole_text h rs e last =
     let w : Report = record { header = h; records = rs; end = last } in
-    report_pieces w ∙ sym (append_assoc (front_text w) (records_text h.quiver 1 rs) (end_text w))
+    report_pieces w ∙ sym (append_assoc (front_text w) (records_text h 0 0 0 rs) (end_text w))
 
 module _ (script : Script) (report : Report) (last : End) (text : List ℕ) (right : IsRightReport script (record { header = report.header; records = report.records; end = last }))
     (written : text ≡ end_text (record { header = report.header; records = report.records; end = last })) where
@@ -133,9 +133,8 @@ pub pushed_one : (old new : List Record) (first : Record) → old ≡ [] → new
 pushed_one old new first empty pushed = pushed ∙ ap (λ l. l ++ first ∷ []) empty
 
 pub record_written : (h : Header) (rs : List Record) (first : Record) (items text : List ℕ) → rs ≡ first ∷ []
-    → ((r : Record) → items ≡ record_text h.quiver 1 (slice_index_or rs (1 - 1) r)) → text ≡ items → text ≡ record_text h.quiver 1 first
-record_written h rs first items text one written same =
-    same ∙ (written first ∙ ap (λ l. record_text h.quiver 1 (slice_index_or l 0 first)) one)
+    → ((r : Record) → items ≡ text_behind h (take (1 - 1) rs) (slice_index_or rs (1 - 1) r)) → text ≡ items → text ≡ text_behind h [] first
+record_written h rs first items text one written same = same ∙ (written first ∙ ap (λ l. text_behind h (take 0 l) (slice_index_or l 0 first)) one)
 
 -- a run that begins with calls that count no fewer faults
 pub faults_before : (script : Script) (r : RunEnd) (start now : Option (List ℕ)) (a b c : ℕ) → a ≤ b → RunsTo script r start now b c → RunsTo script r start now a c

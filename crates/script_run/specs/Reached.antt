@@ -3,11 +3,11 @@ use Rattle.std.specs.Prelude.{ℕ, ◌≡◌, ◌⊎◌, List}
 use Rattle.std.specs.declared.option.Option.{Option}
 use Rattle.quiv_io.specs.Bytes.{Takes}
 use Rattle.script_types.specs.declared.Script.{Script}
-use Rattle.claim_types.specs.declared.reports.Report.{Report}
+use Rattle.report_types.specs.declared.reports.Report.{Report}
 use Rattle.script_run.specs.declared.ends.Halt.{Halt}
 use Rattle.script_run.specs.declared.ends.Halt.TheVariants.{WriteFault, NoMemory}
-use Rattle.claim_types.specs.declared.reports.End.{End}
-use Rattle.claim_types.specs.declared.reports.End.TheVariants as end
+use Rattle.report_types.specs.declared.reports.End.{End}
+use Rattle.report_types.specs.declared.reports.End.TheVariants as end
 use Rattle.script_run.specs.declared.ends.RunEnd.{RunEnd}
 use Rattle.script_run.specs.declared.ends.RunEnd.TheVariants as run
 use Rattle.script_run.specs.Runs.{IsRightBeginning, begun_text, TakesFaulty, TakesBegun}

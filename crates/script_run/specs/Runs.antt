@@ -1,16 +1,19 @@
 -- What a run of a script writes, and how it ends.
-use Rattle.std.specs.Prelude.{ℕ, ◌≡◌, ◌⊎◌, List, ◌++◌, length}
+use Rattle.std.specs.Prelude.{ℕ, ◌≡◌, ◌<◌, ◌^◌, ◌⊎◌, List, ◌++◌, length, take}
 use Rattle.std.specs.declared.option.Option.{Option}
 use Rattle.quiv_io.specs.Bytes.{Takes, TakesFront}
 use Rattle.quiv_io.specs.Counts.{Rose}
-use Rattle.script_types.specs.declared.Script.{Script}
-use Rattle.claim_types.specs.declared.reports.End.{End}
-use Rattle.claim_types.specs.declared.reports.End.TheVariants as end
-use Rattle.claim_types.specs.declared.reports.Report.{Report}
+use Rattle.path_algebra.specs.declared.Header.{Header}
 use Rattle.path_algebra.specs.Allowed.{IsAllowed}
-use Rattle.claim_types.specs.Lawful.{IsReport, AreRecords}
-use Rattle.claim_types.specs.Numbered.{Holds, ConditionsHold}
-use Rattle.claim_types.specs.Answers.{AnswersScript, BeginsToAnswer}
+use Rattle.script_types.specs.declared.Script.{Script}
+use Rattle.report_types.specs.declared.claims.Record.{Record}
+use Rattle.report_types.specs.declared.reports.End.{End}
+use Rattle.report_types.specs.declared.reports.End.TheVariants as end
+use Rattle.report_types.specs.declared.reports.Report.{Report}
+use Rattle.report_types.specs.Numbers.{modules_of, maps_of, record_of}
+use Rattle.report_types.specs.Lawful.{IsReport, MayBeRecord}
+use Rattle.report_types.specs.Verdicts.{Holds, ConditionsHold}
+use Rattle.script_answers.specs.Answers.{AnswersScript, BeginsToAnswer}
 use Rattle.claim_text.specs.Spelling.{front_text, records_text, report_text}
 use Rattle.script_run.specs.declared.ends.RunEnd.{RunEnd}
 use Rattle.script_run.specs.declared.ends.RunEnd.TheVariants.{Done, Refused, WriteFault, NoMemory}
@@ -21,6 +24,13 @@ pub record IsRightReport (script : Script) (report : Report) : Type 0 where
   pub answers : AnswersScript script report
   pub conditions : (k : ℕ) → ConditionsHold report k
   pub hold : (k : ℕ) → Holds report k
+
+-- the records have the numbers and shapes of those of a report
+pub record AreRecords (h : Header) (records : List Record) : Type 0 where
+  pub few : length records < 2 ^ 32
+  pub few_modules : length (modules_of records) < 2 ^ 32
+  pub few_maps : length (maps_of records) < 2 ^ 32
+  pub each : (k : ℕ) → MayBeRecord h (take k records) (record_of records k)
 
 -- the same of a report that has begun to answer the script and may stop anywhere: nothing is said of its end
 pub record IsRightBeginning (script : Script) (report : Report) : Type 0 where
@@ -33,7 +43,7 @@ pub record IsRightBeginning (script : Script) (report : Report) : Type 0 where
 
 -- a report without its last line
 abbrev pub begun_text : Report → List ℕ
-begun_text report = front_text report ++ records_text report.header.quiver 1 report.records
+begun_text report = front_text report ++ records_text report.header 0 0 0 report.records
 
 -- the text is a right report, whole
 pub record IsWholeText (script : Script) (text : List ℕ) : Type 0 where

@@ -6,9 +6,9 @@ ghost use Rattle.script_types.specs.Lawful.{IsLawful};
 ghost use Rattle.script_run.specs.Records.{IsRightRecord, IsBasisAnswer};
 
 use alg_table::Table;
-use claim_types::{Claim, Record};
 use path_basis::{Reduced, reduce_basis};
 use quiver_paths::{Path, PathError};
+use report_types::{Claim, Record};
 use script_types::Script;
 use seq::Seq;
 use std::alloc::{AllocError, Global};
@@ -50,6 +50,8 @@ fn basis_record(alloc: Global, script: &Script, reduced: Reduced) -> Result<Reco
     let words = words_of(alloc, &reduced.table)?;
     Ok(Record {
         line: script.basis_line,
+        modules: Seq::new(alloc),
+        maps: Seq::new(alloc),
         claim: Claim::Basis {
             words,
             steps: reduced.steps,

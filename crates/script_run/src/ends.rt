@@ -1,9 +1,9 @@
 //! How a run ends.
 
-use claim_types::Why;
+use report_types::Why;
 
 /// How a run of a script ends.
-#[derive(Clone, Copy, Debug, Drop, PartialEq, Eq)]
+#[derive(Clone, Debug, Drop, PartialEq, Eq)]
 pub enum RunEnd {
     /// All statements were done; the report has so many claims.
     Done { claims: u32 },

@@ -1,7 +1,7 @@
 //! The work on a script.
 ghost use Rattle.std.specs.Prelude.{ℕ, ◌≡◌, ◌≤◌, [], List};
 ghost use Rattle.std.specs.declared.option.Option.{Option};
-ghost use Rattle.claim_types.specs.Answers.{EndsAtStatements};
+ghost use Rattle.script_run.specs.Ends.{EndsBehindBasis};
 ghost use Rattle.script_types.specs.declared.Script.{Script};
 ghost use Rattle.script_types.specs.Lawful.{IsLawful};
 ghost use Rattle.script_run.specs.Records.{IsRightRecord};
@@ -11,8 +11,8 @@ ghost use Rattle.script_run.specs.Reached.{IsReached, IsHalted};
 use crate::basis::{BasisAnswer, answer_basis};
 use crate::ends::{Halt, RunEnd};
 use crate::writing::{write_first, write_front, write_last};
-use claim_types::{End, Record, Report, Why};
 use quiv_io::Sink;
+use report_types::{End, Record, Report, Why};
 use script_types::Script;
 use std::alloc::Global;
 
@@ -72,7 +72,7 @@ fn run_statements<K: Sink>(
 
 /// How a script ends behind the record of its basis: no kind of statement is built, so the first one is refused.
 fn end_of_statements(script: &Script) -> End
-    ensures { EndsAtStatements [] script.now.statements result }
+    ensures { EndsBehindBasis script.now.statements result }
 {
     match script.statements.first() {
         None => End::Done,

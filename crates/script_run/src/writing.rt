@@ -11,10 +11,9 @@ ghost use Rattle.script_run.specs.Reached.{IsReached, IsHalted, run_end};
 
 use crate::ends::{Halt, RunEnd};
 use claim_text::{write_end, write_header, write_record};
-use claim_types::{End, Record, Report};
 use quiv_io::{Sink, write_whole};
+use report_types::{End, Record, Records, Report};
 use script_types::Script;
-use seq::Seq;
 use std::alloc::Global;
 
 /// Writes the title and the header; answers a report without records.
@@ -41,7 +40,7 @@ pub(crate) fn write_front<K: Sink>(
     };
     Ok(Report {
         header,
-        records: Seq::new(alloc),
+        records: Records::new(alloc),
         end: End::Done,
     })
 }
@@ -101,7 +100,8 @@ pub(crate) fn write_last<K: Sink>(
     let Ok(()) = write_whole(sink, &text) else {
         return RunEnd::WriteFault;
     };
-    end_of(last, whole.records.len() as u32)
+    let claims = whole.records.len() as u32;
+    end_of(whole.end, claims)
 }
 
 /// How a run ends whose report has this end and so many claims.

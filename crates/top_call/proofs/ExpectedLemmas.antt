@@ -5,21 +5,22 @@ use Rattle.std.proofs.lemmas.List.{length-append}
 use Rattle.quiv_io.specs.Counts.{Rose}
 use Rattle.quiv_io.specs.Bytes.{Gives}
 use Rattle.quiv_io.specs.Whole.{GivesAll}
-use Rattle.claim_types.specs.declared.reports.Report.{Report}
-use Rattle.claim_types.specs.declared.reports.Why.{Why}
-use Rattle.claim_types.specs.Numbered.{ConditionsHold}
-use Rattle.claim_types.specs.declared.verdicts.Clause.{Clause}
-use Rattle.claim_types.specs.declared.verdicts.Verdict.{Verdict}
-use Rattle.claim_types.specs.declared.verdicts.Verdict.TheVariants as verdict
-use Rattle.claim_types.specs.declared.reports.End.TheVariants as end
-use Rattle.claim_types.specs.Answers.{HasFewPaths}
-use Rattle.claim_types.proofs.ClaimLaws.{one_verdict}
-use Rattle.claim_types.proofs.EndLaws.{done_without_statements}
+use Rattle.report_types.specs.declared.reports.Report.{Report}
+use Rattle.report_types.specs.declared.reports.Why.{Why}
+use Rattle.report_types.specs.Verdicts.{ConditionsHold}
+use Rattle.claim_conditions.specs.declared.Clause.{Clause}
+use Rattle.report_types.specs.declared.verdicts.Verdict.{Verdict}
+use Rattle.report_types.specs.declared.verdicts.Verdict.TheVariants as verdict
+use Rattle.report_types.specs.declared.reports.End.TheVariants as end
+use Rattle.script_answers.specs.Answers.{HasFewPaths}
+use Rattle.report_types.proofs.VerdictLaws.{words_of, one_verdict}
+use Rattle.script_answers.proofs.Fronts.{ends_done}
 use Rattle.claim_text.proofs.ReportLaws.{one_report, report_not_bad}
 use Rattle.script_types.specs.declared.Script.{Script}
 use Rattle.script_lang.specs.Scripts.{IsScript}
 use Rattle.script_lang.proofs.ScriptLaws.{one_script, script_not_bad}
 use Rattle.script_run.specs.Runs.{IsRightReport}
+use Rattle.top_call.proofs.RunLemmas.{right_judged}
 use Rattle.top_call.specs.declared.outcome.Outcome.{Outcome}
 use Rattle.top_call.specs.declared.outcome.Outcome.TheVariants.{Done, Refused, Rejected, BadText, TooLong, Usage, ReadFault, WriteFault, NoMemory}
 use Rattle.top_call.specs.declared.modes.Mode.{Mode}
@@ -37,14 +38,14 @@ differs e = let n = ap (λ (l : List (List ℕ)). sizes l) e in absurd (omega (a
     sizes (w ∷ ws) = length w + sizes ws
 
 -- words ask for one mode
-one_mode : (words : List (List ℕ)) (m n : Mode) → AsksFor words m → AsksFor words n → m ≡ n
+pub one_mode : (words : List (List ℕ)) (m n : Mode) → AsksFor words m → AsksFor words n → m ≡ n
 one_mode words Run Run a b = refl
 one_mode words Run Check a b = absurd (differs (sym a ∙ b))
 one_mode words Check Run a b = absurd (differs (sym b ∙ a))
 one_mode words Check Check a b = refl
 
 -- what was read of a source that tells all it has left
-read_all_of : (input given : List ℕ) (left after : Option (List ℕ)) → left ≡ Some input → GivesAll left given after → given ≡ input
+pub read_all_of : (input given : List ℕ) (left after : Option (List ℕ)) → left ≡ Some input → GivesAll left given after → given ≡ input
 read_all_of input given left None tells read = absurd (subst (λ l. Gives l given None) tells read.0)
 read_all_of input given left (Some rest) tells read =
     let told : input ≡ given ++ rest = subst (λ l. Gives l given (Some rest)) tells read.0 in
@@ -70,34 +71,39 @@ good_not_rejected : (mode : Mode) (input text : List ℕ) (claim : ℕ) (which :
 good_not_rejected Run input text claim which good a = a
 good_not_rejected Check input text claim which good a =
     let same : good.report ≡ a.report = one_report input good.report a.report good.reads a.reads in
-    verdicts_differ claim which (one_verdict a.report verdict.Holds (verdict.Fails claim which) (subst (λ (r : Report). (k : ℕ) → ConditionsHold r k) same good.conditions) a.verdict_is)
+    verdicts_differ claim which (one_verdict a.report (words_of a.report.header a.reads.report_is.header) verdict.Holds (verdict.Fails claim which)
+    (subst (λ (r : Report). (k : ℕ) → ConditionsHold r k) same good.conditions) a.verdict_is)
 
 good_not_bad : (mode : Mode) (input text : List ℕ) (line : ℕ) → IsGood mode input → Answers mode (BadText line) input text → ⊥
 good_not_bad Run input text line good a = script_not_bad input good.script line good.reads a.bad
 good_not_bad Check input text line good a = report_not_bad input good.report line good.reads a.bad
 
-module _ (words : List (List ℕ)) (left left' taken taken' : Option (List ℕ)) (mode : Mode) (input : List ℕ) (asks : AsksFor words mode) (tells : left ≡ Some input)
-    (short : length input ≤ input_limit mode) (good : IsGood mode input) where
+module _ (words : List (List ℕ)) (left left' : Option (List ℕ)) (mode : Mode) (input : List ℕ) (asks : AsksFor words mode) (tells : left ≡ Some input) where
   -- the answer is one to this input in this mode
-  answer_of : (o : Outcome) (text : List ℕ) → IsAnswered words o left left' text → Answers mode o input text
-  answer_of o text is =
+  pub answer_to : (o : Outcome) (text : List ℕ) → IsAnswered words o left left' text → Answers mode o input text
+  answer_to o text is =
       let m : is.mode ≡ mode = one_mode words is.mode mode is.asks asks in
       let i : is.input ≡ input = read_all_of input is.input left left' tells is.read in
       subst (λ n. Answers n o input text) m (subst (λ r. Answers is.mode o r text) i is.answer)
 
-  not_long : (text : List ℕ) → IsTooLong words left left' text → ⊥
-  not_long text is =
+  pub not_longer : length input ≤ input_limit mode → (text : List ℕ) → IsTooLong words left left' text → ⊥
+  not_longer short text is =
       let m : is.mode ≡ mode = one_mode words is.mode mode is.asks asks in
       let low = read_part_of input is.input left left' tells is.read in
       let past : length is.input ≡ input_limit mode + 1 = subst (λ n. length is.input ≡ input_limit n + 1) m is.past in
       omega arith
+
+module _ (words : List (List ℕ)) (left left' taken taken' : Option (List ℕ)) (mode : Mode) (input : List ℕ) (asks : AsksFor words mode) (tells : left ≡ Some input)
+    (short : length input ≤ input_limit mode) (good : IsGood mode input) where
+  answer_of : (o : Outcome) (text : List ℕ) → IsAnswered words o left left' text → Answers mode o input text
+  answer_of = answer_to words left left' mode input asks tells
 
   pub as_expected : (o : Outcome) (a b c d : ℕ) → Writes (IsText words left left') (IsBegun words left left') (IsStopped words left left') o taken taken' → HasCause o a b c d → (Rose a b → ⊥) → (Rose c d → ⊥) → IsDoneOrNoMemory o
   as_expected Done a b c d w cause x y = tt
   as_expected (Refused line why) a b c d w cause x y = good_not_refused mode input w.text line why good (answer_of (Refused line why) w.text w.is)
   as_expected (Rejected claim which) a b c d w cause x y = good_not_rejected mode input w.text claim which good (answer_of (Rejected claim which) w.text w.is)
   as_expected (BadText line) a b c d w cause x y = good_not_bad mode input w.text line good (answer_of (BadText line) w.text w.is)
-  as_expected TooLong a b c d w cause x y = not_long w.text w.is
+  as_expected TooLong a b c d w cause x y = not_longer words left left' mode input asks tells short w.text w.is
   as_expected Usage a b c d w cause x y = w.is.other mode asks
   as_expected ReadFault a b c d w cause x y = x cause
   as_expected WriteFault a b c d w cause x y = y cause
@@ -105,7 +111,7 @@ module _ (words : List (List ℕ)) (left left' taken taken' : Option (List ℕ))
 
 -- what `run` writes with Done is accepted
 pub accepted : (input text : List ℕ) → Answers Run Done input text → IsGood Check text
-accepted input text a = record { report = a.report; reads = record { report_is = a.right.lawful; spelled = a.spelled }; conditions = a.right.conditions }
+accepted input text a = record { report = a.report; reads = record { report_is = a.right.lawful; judged = right_judged a.script a.report a.right.answers a.ends; spelled = a.spelled }; conditions = a.right.conditions }
 
 -- a script without statements, with few paths below its bound
 done_differs : (line : ℕ) (why : Why) → end.Done ≡ end.Refused line why → ⊥
@@ -115,5 +121,5 @@ pub without_statements : (input : List ℕ) (script : Script) → IsScript input
 without_statements input script reads few empty = record {
   script = script;
   reads = reads;
-  never = λ report line why right refused. done_differs line why (sym (done_without_statements script report few empty right.answers) ∙ refused);
+  never = λ report line why right refused. done_differs line why (sym (ends_done script report few empty right.answers) ∙ refused);
 }

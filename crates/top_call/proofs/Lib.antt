@@ -1,2 +1,4 @@
 pub mod OutcomeLemmas
+pub mod RunLemmas
 pub mod ExpectedLemmas
+pub mod WholeRuns

@@ -8,13 +8,15 @@ use Rattle.quiv_io.specs.Whole.{GivesAll, GivesBefore}
 use Rattle.quiv_io.specs.declared.whole.ReadError.TheVariants.{TooLong as ReadTooLong}
 use Rattle.script_types.specs.declared.Script.{Script}
 use Rattle.script_lang.specs.Scripts.{IsScript, IsBadLine as IsBadScriptLine}
-use Rattle.claim_types.specs.declared.reports.End.{End}
-use Rattle.claim_types.specs.declared.reports.End.TheVariants as end
-use Rattle.claim_types.specs.declared.reports.Report.{Report}
+use Rattle.report_types.specs.declared.reports.End.{End}
+use Rattle.report_types.specs.declared.reports.End.TheVariants as end
+use Rattle.report_types.specs.declared.reports.Report.{Report}
 use Rattle.claim_text.specs.Spelling.{report_text}
-use Rattle.claim_types.specs.declared.verdicts.Verdict.TheVariants as verdict
-use Rattle.claim_types.specs.Verdicts.{IsVerdict}
-use Rattle.claim_types.proofs.ClaimLaws.{conditions_suffice}
+use Rattle.report_types.specs.declared.verdicts.Verdict.TheVariants as verdict
+use Rattle.report_types.specs.Verdicts.{IsVerdict}
+use Rattle.report_types.specs.Lawful.{IsReport}
+use Rattle.report_types.specs.Verdicts.{sides_by, Holds, ConditionsHold}
+use Rattle.report_types.proofs.Suffices.{suffices}
 use Rattle.claim_text.specs.Texts.{IsTextOf}
 use Rattle.script_run.specs.Runs.{IsRightReport, IsWholeText, IsBegunText, RunsTo}
 use Rattle.script_run.specs.declared.ends.RunEnd.{RunEnd}
@@ -225,7 +227,11 @@ input_answered words left left' taken taken' mode found items text limit o old n
     whole_run words left left' taken taken' mode items (subst (AsksFor words) is asks) read (subst (λ n. length items ≤ input_limit n) is (subst (λ n. length items ≤ n) same within)) o old new
     (subst (λ t. EndsWith mode t o taken taken' old new) told ends)
 
+-- where the conditions hold, the claims do
+holds_of : (report : Report) → IsReport report → (k : ℕ) → ((j : ℕ) → j ≤ k → ConditionsHold report j) → Holds report k
+holds_of report is k held n = suffices report (sides_by n) is k (λ j l. held j l n)
+
 -- a report that was read, of which the verdict is that it holds
 pub accepts : (input text : List ℕ) (report : Report) → IsTextOf input report → IsVerdict report verdict.Holds → text ≡ holds_text (length report.records) → CheckAnswers Done input text
 accepts input text report reads holds written =
-    record { report = report; reads = reads; verdict_is = holds; hold = λ k. conditions_suffice report k reads.report_is (λ j low. holds j); written = written }
+    record { report = report; reads = reads; verdict_is = holds; hold = λ k. holds_of report reads.report_is k (λ j low. holds j); written = written }

@@ -2,13 +2,12 @@
 use Rattle.std.specs.Prelude.{ℕ, ◌≡◌, List, length}
 use Rattle.script_types.specs.declared.Script.{Script}
 use Rattle.script_lang.specs.Scripts.{IsScript, IsBadLine as IsBadScriptLine}
-use Rattle.claim_types.specs.declared.reports.End.{End}
-use Rattle.claim_types.specs.declared.reports.End.TheVariants as end
-use Rattle.claim_types.specs.declared.reports.Report.{Report}
-use Rattle.claim_types.specs.declared.verdicts.Clause.{Clause}
-use Rattle.claim_types.specs.declared.verdicts.Verdict.TheVariants as verdict
-use Rattle.claim_types.specs.Numbered.{Holds}
-use Rattle.claim_types.specs.Verdicts.{IsVerdict}
+use Rattle.report_types.specs.declared.reports.End.{End}
+use Rattle.report_types.specs.declared.reports.End.TheVariants as end
+use Rattle.report_types.specs.declared.reports.Report.{Report}
+use Rattle.claim_conditions.specs.declared.Clause.{Clause}
+use Rattle.report_types.specs.declared.verdicts.Verdict.TheVariants as verdict
+use Rattle.report_types.specs.Verdicts.{Holds, IsVerdict}
 use Rattle.claim_text.specs.Spelling.{report_text}
 use Rattle.claim_text.specs.Texts.{IsTextOf, IsBadLine as IsBadReportLine}
 use Rattle.script_run.specs.Runs.{IsRightReport, IsBegunText}

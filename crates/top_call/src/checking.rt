@@ -9,7 +9,7 @@ use crate::outcome::Outcome;
 use crate::texts::{bad_text, holds_text, rejected_text};
 use claim_check::check_report;
 use claim_text::{ReadTextError, read};
-use claim_types::{Report, Verdict};
+use report_types::{Report, Verdict};
 use std::alloc::{AllocError, Global};
 
 /// An outcome and the text that is written for it.

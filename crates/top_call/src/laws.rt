@@ -2,7 +2,7 @@
 ghost use Rattle.std.specs.Prelude.{ℕ, ◌≡◌, List, []};
 ghost use Rattle.script_types.specs.declared.Script.{Script};
 ghost use Rattle.script_lang.specs.Scripts.{IsScript};
-ghost use Rattle.claim_types.specs.Answers.{HasFewPaths};
+ghost use Rattle.script_answers.specs.Answers.{HasFewPaths};
 ghost use Rattle.top_call.specs.declared.outcome.Outcome.TheVariants.{Done};
 ghost use Rattle.top_call.specs.declared.modes.Mode.TheVariants.{Run, Check};
 ghost use Rattle.top_call.specs.Answers.{Answers};

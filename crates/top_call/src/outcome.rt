@@ -2,10 +2,11 @@
 ghost use Rattle.std.specs.Prelude.{◌≡◌};
 ghost use Rattle.top_call.specs.Outcomes.{status_of};
 
-use claim_types::{Clause, Why};
+use claim_conditions::Clause;
+use report_types::Why;
 
 /// How a run of the program ends.
-#[derive(Clone, Copy, Debug, Drop, PartialEq, Eq)]
+#[derive(Clone, Debug, Drop, PartialEq, Eq)]
 pub enum Outcome {
     /// The report, or the verdict that all claims hold, was written.
     Done,

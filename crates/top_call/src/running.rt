@@ -5,10 +5,13 @@ ghost use Rattle.top_call.specs.declared.modes.Mode.{Mode};
 ghost use Rattle.top_call.specs.declared.modes.Mode.TheVariants.{Run, Check};
 ghost use Rattle.top_call.specs.Modes.{AsksFor, input_limit};
 ghost use Rattle.top_call.specs.Outcomes.{IsText, IsBegun, IsStopped, Writes, HasCause};
-ghost use Rattle.top_call.specs.Expected.{IsGood, IsDoneOrNoMemory};
+ghost use Rattle.script_types.specs.declared.Script.{Script};
+ghost use Rattle.script_lang.specs.Scripts.{IsScript};
+ghost use Rattle.script_answers.specs.Answers.{HasFewPaths};
+ghost use Rattle.top_call.specs.Expected.{IsGood, IsDoneOrNoMemory, RunsWhole};
 ghost use Rattle.top_call.specs.Steps.{Finishes, EndsWith, Refuses, run_outcome};
 
-use crate::checking::check_input;
+use crate::checking::{Answer, check_input};
 use crate::modes::{Mode, mode_of};
 use crate::outcome::Outcome;
 use crate::texts::bad_text;
@@ -32,6 +35,14 @@ pub fn quiv<S: Source, K: Sink>(
     ensures cause { HasCause result (S.faults source.old) (S.faults source.new) (K.faults sink.old) (K.faults sink.new) }
     ensures counts { (S.faults source.old ≤ S.faults source.new) × (K.faults sink.old ≤ K.faults sink.new) }
 
+    // Words that ask for nothing: the source is not called.
+    ensures unread { ((mode : Mode) → AsksFor (map string_bytes words.now) mode → ⊥) → source.new ≡ source.old }
+
+    // A script with few paths, not too long: where over the records that were made no statement meets a refusal, the outcome is Done or NoMemory.
+    ensures unrefused { AsksFor (map string_bytes words.now) Run → (Rose (S.faults source.old) (S.faults source.new) → ⊥) → (Rose (K.faults sink.old) (K.faults sink.new) → ⊥)
+        → (input : List ℕ) → S.left source.old ≡ Some input → length input ≤ input_limit Run → (script : Script) → IsScript input script → HasFewPaths script
+        → RunsWhole script result (K.taken sink.old) (K.taken sink.new) }
+
     // A script of which nothing is refused, and a report of which all conditions hold, that are not too long: the outcome is Done or NoMemory.
     ensures complete { (mode : Mode) → AsksFor (map string_bytes words.now) mode → (Rose (S.faults source.old) (S.faults source.new) → ⊥) → (Rose (K.faults sink.old) (K.faults sink.new) → ⊥)
         → (input : List ℕ) → S.left source.old ≡ Some input → length input ≤ input_limit mode → IsGood mode input → IsDoneOrNoMemory result }
@@ -50,6 +61,7 @@ fn answer<S: Source, K: Sink>(
         (IsStopped (map string_bytes words.now) (S.left source.old) (S.left source.new)) result (K.taken sink.old) (K.taken sink.new) }
     ensures cause { HasCause result (S.faults source.old) (S.faults source.new) (K.faults sink.old) (K.faults sink.new) }
     ensures counts { (S.faults source.old ≤ S.faults source.new) × (K.faults sink.old ≤ K.faults sink.new) }
+    ensures unread { ((mode : Mode) → AsksFor (map string_bytes words.now) mode → ⊥) → source.new ≡ source.old }
 {
     let Some(mode) = mode_of(words) else {
         return finish(
@@ -112,10 +124,10 @@ fn answer_check<K: Sink>(alloc: Global, input: &[u8], sink: &mut K) -> Outcome
     ensures count { K.faults sink.old ≤ K.faults sink.new }
     ensures ends { EndsWith Check input.now result (K.taken sink.old) (K.taken sink.new) (K.faults sink.old) (K.faults sink.new) }
 {
-    let Ok(answer) = check_input(alloc, input) else {
+    let Ok(Answer { outcome, text }) = check_input(alloc, input) else {
         return Outcome::NoMemory;
     };
-    finish(sink, answer.outcome, &answer.text)
+    finish(sink, outcome, &text)
 }
 
 /// Writes the whole text of an outcome.

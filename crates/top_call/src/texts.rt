@@ -2,7 +2,7 @@
 ghost use Rattle.std.specs.Prelude.{◌≡◌, IfOk};
 ghost use Rattle.top_call.specs.Texts.{clause_name, holds_text, rejected_text, bad_text};
 
-use claim_types::Clause;
+use claim_conditions::Clause;
 use std::alloc::{AllocError, Global};
 use text_lines::push_numeral;
 
@@ -11,11 +11,35 @@ fn clause_name(clause: Clause) -> &'static [u8]
     ensures { result.now ≡ clause_name clause }
 {
     match clause {
+        Clause::Relations => b"relations",
+        Clause::Commutes => b"commutes",
         Clause::Step => b"step",
         Clause::Rule => b"rule",
         Clause::Reduced => b"reduced",
         Clause::Words => b"words",
         Clause::Action => b"action",
+        Clause::Objects => b"objects",
+        Clause::Homs => b"homs",
+        Clause::All => b"all",
+        Clause::Zero => b"zero",
+        Clause::Complex => b"complex",
+        Clause::Exact => b"exact",
+        Clause::Minimal => b"minimal",
+        Clause::Choice => b"choice",
+        Clause::Cocycles => b"cocycles",
+        Clause::Nonzero => b"nonzero",
+        Clause::Ideal => b"ideal",
+        Clause::Power => b"power",
+        Clause::Residue => b"residue",
+        Clause::Order => b"order",
+        Clause::Sum => b"sum",
+        Clause::Inverse => b"inverse",
+        Clause::Inside => b"inside",
+        Clause::Nonprojective => b"nonprojective",
+        Clause::Functional => b"functional",
+        Clause::Left => b"left",
+        Clause::Middle => b"middle",
+        Clause::Maps => b"maps",
     }
 }
 

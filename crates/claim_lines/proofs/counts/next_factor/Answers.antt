@@ -1,6 +1,6 @@
 use Rattle.std.proofs.Common.{◌<◌, ◌^◌, arith, lit<}
 use Rattle.header_text.proofs.Readers.{order_small}
-use Rattle.claim_lines.proofs.EndReading.{zero_first}
+use Rattle.claim_lines.proofs.NumberReading.{zero_first}
 use Rattle.claim_lines.proofs.counts.next_factor.Goals as goal
 
 pub returns-then-n-eq0 : goal.returns-then-n-eq0

@@ -1,5 +1,5 @@
 use Rattle.std.proofs.Common.{◌<◌, ◌^◌, [], arith, lit<}
-use Rattle.claim_lines.proofs.EndReading.{zero_first}
+use Rattle.claim_lines.proofs.NumberReading.{zero_first}
 use Rattle.claim_lines.proofs.counts.only_place.Goals as goal
 
 pub returns-then-n-eq0 : goal.returns-then-n-eq0

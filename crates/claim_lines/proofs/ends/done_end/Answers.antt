@@ -1,9 +1,6 @@
-use Rattle.std.proofs.Common.{◌≡◌, true, false, refl}
-use Rattle.claim_lines.proofs.EndReading.{no_done, is_done_line}
+use Rattle.std.proofs.Common.{◌≡◌, true, false}
+use Rattle.claim_lines.proofs.EndReading.{no_done}
 use Rattle.claim_lines.proofs.ends.done_end.Goals as goal
 
-pub returns-then-not-is_one : goal.returns-then-not-is_one
-returns-then-not-is_one c = no_done c.args.tokens (λ e. let g : false ≡ true = c.if-not-is_one.ensures.1 e in cc)
-
-pub returns : goal.returns
-returns c = (tt, is_done_line c.args.tokens (c.if-not-is_one.ensures.0 refl))
+pub returns-then-not-only_this : goal.returns-then-not-only_this
+returns-then-not-only_this c = no_done c.args.header.now c.args.claims c.args.tokens (λ e. let g : false ≡ true = c.if-not-only_this.ensures.1 e in cc)

@@ -1,5 +1,5 @@
 use Rattle.std.proofs.Common.{◌+◌, codes}
-use Rattle.claim_lines.proofs.EndReading.{other_number}
+use Rattle.claim_lines.proofs.NumberReading.{other_number}
 use Rattle.claim_lines.proofs.steps.read_step.Goals as goal
 
 pub returns-then-number-earlier : goal.returns-then-number-earlier

@@ -1,5 +1,5 @@
 use Rattle.std.proofs.Common.{◌∙◌}
-use Rattle.claim_types.specs.declared.reports.End.TheVariants as end
+use Rattle.report_types.specs.declared.reports.End.TheVariants as end
 use Rattle.script_run.proofs.Pieces.{front_reached, front_faulty}
 use Rattle.script_run.proofs.writing.write_front.Goals as goal
 

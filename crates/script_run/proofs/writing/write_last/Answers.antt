@@ -18,4 +18,4 @@ returns-clause-end g c = λ start reached.
     subst (λ (r : RunEnd). RunsTo c.args.script.now r start (g.K.Sink.taken c.write_whole.new.sink) (g.K.Sink.faults c.args.sink.now) (g.K.Sink.faults c.write_whole.new.sink)) (sym c.end_of.ensures)
     (last_taken c.args.script.now c.args.report c.args.last c.deref.result.now c.requires.right (c.deref.ensures.value ∙ c.in-Ok.ensures)
     start (g.K.Sink.taken c.args.sink.now) (g.K.Sink.taken c.write_whole.new.sink) (g.K.Sink.faults c.args.sink.now) (g.K.Sink.faults c.write_whole.new.sink) _ reached
-    c.in-Ok-write_whole.ensures.written c.len.ensures)
+    c.in-Ok-write_whole.ensures.written c.len-claims.ensures)

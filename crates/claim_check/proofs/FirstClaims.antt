@@ -1,0 +1,69 @@
+-- The first claim of a report: its numbers and shapes, and its conditions.
+use Rattle.std.proofs.Common.{ℕ, zero, suc, ◌≡◌, ◌<◌, List, Some, length, refl, sym, subst, arith}
+use Rattle.std.specs.Prelude.{◌++◌, take}
+use Rattle.std.proofs.lemmas.List.Elements.{All-weaker}
+use Rattle.quiver_paths.specs.Path.{IsPath}
+use Rattle.path_algebra.specs.Words.{IsShortPath}
+use Rattle.path_algebra.specs.Rules.{AreElementTerms}
+use Rattle.quiver_paths.specs.declared.Path.{Path}
+use Rattle.path_algebra.specs.declared.Header.{Header}
+use Rattle.path_algebra.specs.declared.rules.Rule.{Rule}
+use Rattle.path_algebra.specs.declared.rules.Step.{Step}
+use Rattle.path_algebra.specs.declared.rules.BasisFault.{BasisFault}
+use Rattle.path_algebra.specs.declared.rules.BasisFault.TheVariants as fault
+use Rattle.path_algebra.specs.BasisClauses.{IsBasisClaim, IsFirstFault}
+use Rattle.claim_conditions.specs.Conditions.{IsFirstFailing}
+use Rattle.report_types.specs.declared.claims.Claim.{Claim}
+use Rattle.report_types.specs.declared.claims.Claim.TheVariants.{Basis}
+use Rattle.report_types.specs.declared.claims.Record.{Record}
+use Rattle.report_types.specs.declared.reports.Report.{Report}
+use Rattle.report_types.specs.BasisBlocks.{IsBasisBlock, IsWrittenRule}
+use Rattle.report_types.specs.BasisClaims.{basis_conditions}
+use Rattle.report_types.specs.ClaimBlocks.{IsClaimBlock}
+use Rattle.report_types.specs.Conditions.{conditions, claim_conditions, before_claim}
+use Rattle.report_types.specs.Lawful.{IsRecord, IsReport, MayBeRecord}
+use Rattle.report_types.specs.Numbers.{record_of}
+use Rattle.report_types.specs.Verdicts.{sides_by, ConditionsHold, IsFirstFailure}
+use Rattle.claim_check.specs.ClaimVerdicts.{clause_of}
+
+-- what the format asks of a basis claim is what its conditions presuppose
+claim_of_block : (h : Header) (words : List Path) (steps : List Step) (rules : List Rule) → IsBasisBlock h words steps rules → IsBasisClaim h words steps rules
+claim_of_block h words steps rules b = record {
+  few = b.are_words.few;
+  paths = All-weaker (IsShortPath h) (IsPath h.quiver) (λ w s. s.path) words b.are_words.short;
+  factors = b.are_steps.factors;
+  tips = All-weaker (IsWrittenRule h (length steps)) (λ (r : Rule). IsPath h.quiver r.tip) (λ r w. w.tip) rules b.are_rules.each;
+  tails = All-weaker (IsWrittenRule h (length steps)) (λ (r : Rule). AreElementTerms h r.tail.terms) (λ r w. w.tail) rules b.are_rules.each;
+}
+
+-- there is no claim with the number 0
+none_before : (report : Report) (j : ℕ) → j < 1 → ConditionsHold report j
+none_before report zero l = λ n. tt
+none_before report (suc j) l = absurd (omega (arith, l))
+
+-- the claim by lists that are those of its own
+pub same_basis : (c : Claim) (words ws : List Path) (steps ss : List Step) (rules rs : List Rule) → c ≡ Basis words steps rules → ws ≡ words → ss ≡ steps → rs ≡ rules
+    → c ≡ Basis ws ss rs
+same_basis c words ws steps ss rules rs is a b d = cc
+
+module _ (report : Report) (first : Record) (words : List Path) (steps : List Step) (rules : List Rule) (there : record_of report.records 1 ≡ Some first) (is : first.claim ≡ Basis words steps rules) where
+  pub first_block : IsReport report → IsBasisClaim report.header words steps rules
+  first_block lawful =
+      let r : IsRecord report.header (take 1 report.records) first = subst (MayBeRecord report.header (take 1 report.records)) there (lawful.each 1) in
+      claim_of_block report.header words steps rules (subst (IsClaimBlock report.header (take 1 report.records)) is r.claim)
+
+  failing : (f : BasisFault) → IsFirstFault report.header words steps rules f → IsFirstFailing (basis_conditions report.header words steps rules) (clause_of f)
+  failing fault.Step f = (0, (refl, f))
+  failing fault.Rule f = (1, (f.0, (refl, f.1)))
+  failing fault.Reduced f = (2, (f.0, (f.1, (refl, f.2))))
+  failing fault.Words f = (3, (f.0, (f.1, (f.2, (refl, f.3)))))
+  failing fault.Action f = (4, (f.0, (f.1, (f.2, (f.3, (refl, f.4))))))
+
+  pub first_fails : (f : BasisFault) → IsFirstFault report.header words steps rules f → IsFirstFailure report 1 (clause_of f)
+  first_fails f fails = record {
+    before = none_before report;
+    fails = λ n.
+        subst (λ o. IsFirstFailing (conditions report.header (sides_by n) (take 1 report.records) o) (clause_of f)) (sym there)
+        (subst (λ c. IsFirstFailing (before_claim report.header (take 1 report.records) first c ++ claim_conditions report.header (sides_by n) (take 1 report.records) c) (clause_of f)) (sym is)
+        (failing f fails));
+  }

@@ -1,0 +1,9 @@
+use Rattle.std.proofs.Common.{◌∷◌, codes, arith}
+use Rattle.claim_lines.proofs.EndReading.{none_why}
+use Rattle.claim_lines.proofs.NumberReading.{tail_is}
+use Rattle.claim_lines.proofs.causes.relation_why.Goals as goal
+
+pub returns-in_default : goal.returns-in_default
+returns-in_default c =
+    none_why c.args.header.now c.requires (codes "RelationFails" ∷ c.args.tokens)
+    (λ a p is e. c.in_default.ensures _ record { from = is.from; to = let to = is.to in omega (arith, to, c.len.ensures) } (tail_is _ _ _ _ e))
