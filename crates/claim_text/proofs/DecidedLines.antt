@@ -150,7 +150,7 @@ fill_kept p o = matrices_kept (record p { matrices = filled p.front.header.field
 rules_kept : (p : Part) (n : ℕ) → (at_rules p n).front ≡ p.front
 rules_kept p n = by (length p.rules == n)
   where
-    by : (b : Bool) → (cond b (claimed p p.line (claim.Basis p.words p.steps p.rules)) (record p { place = place.Rules n })).front ≡ p.front
+    by : (b : Bool) → (cond b (claimed (record p { modules = []; maps = [] }) p.line (claim.Basis p.words p.steps p.rules)) (record p { place = place.Rules n })).front ≡ p.front
     by true = refl
     by false = refl
 

@@ -205,10 +205,10 @@ sound_rules p n ls s = elim (eqb_tells (length p.rules) n) [
         base = sound_basis h p.line p.words p.steps p.rules s.sound.allowed s.sound.is_line s.sound.block;
         lines = s.sound.lines ∙ (ap (λ d. rules_lines h p.line p.words p.steps d p.rules) numeral ∙ basis_lines h p.line p.words p.steps p.rules);
       } in
-      let records : record { line = p.line; modules = []; maps = []; claim = c } ∷ [] ≡ p.records ++ record { line = p.line; modules = p.modules; maps = p.maps; claim = c } ∷ [] =
-      sym (λ i. s.none.no_record i ++ record { line = p.line; modules = s.none.no_module i; maps = s.none.no_map i; claim = c } ∷ []) in
-      subst (λ b. Sound (cond b (claimed p p.line c) (record p { place = place.Rules n })) ls) (sym same.0) (subst (λ rs. Between h rs [] [] ls) records whole)
-  | inr other ↦ subst (λ b. Sound (cond b (claimed p p.line (claim.Basis p.words p.steps p.rules)) (record p { place = place.Rules n })) ls) (sym other.0) record { numeral = s.numeral; counts = s.counts; sound = s.sound; none = record { no_record = s.none.no_record; no_module = s.none.no_module; no_map = s.none.no_map } }
+      let records : record { line = p.line; modules = []; maps = []; claim = c } ∷ [] ≡ p.records ++ record { line = p.line; modules = []; maps = []; claim = c } ∷ [] =
+      sym (λ i. s.none.no_record i ++ record { line = p.line; modules = []; maps = []; claim = c } ∷ []) in
+      subst (λ b. Sound (cond b (claimed (record p { modules = []; maps = [] }) p.line c) (record p { place = place.Rules n })) ls) (sym same.0) (subst (λ rs. Between h rs [] [] ls) records whole)
+  | inr other ↦ subst (λ b. Sound (cond b (claimed (record p { modules = []; maps = [] }) p.line (claim.Basis p.words p.steps p.rules)) (record p { place = place.Rules n })) ls) (sym other.0) record { numeral = s.numeral; counts = s.counts; sound = s.sound; none = record { no_record = s.none.no_record; no_module = s.none.no_module; no_map = s.none.no_map } }
 ]
 
 -- ---- matrices

@@ -90,7 +90,7 @@ claimed p line c = record p {
 
 -- among n rules, or behind them
 abbrev pub at_rules : Part → ℕ → Part
-at_rules p n = if length p.rules == n then claimed p p.line (claim.Basis p.words p.steps p.rules) else record p { place = place.Rules n }
+at_rules p n = if length p.rules == n then claimed (record p { modules = []; maps = [] }) p.line (claim.Basis p.words p.steps p.rules) else record p { place = place.Rules n }
 
 abbrev pub with_rule_count : Part → List ℕ → Part
 with_rule_count p numeral = at_rules p (counted numeral)

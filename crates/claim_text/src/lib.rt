@@ -1,15 +1,6 @@
-//! Trial.
+//! Reports as texts: their one spelling, writing them, and reading them.
 #![tactic(auto)]
 
-ghost use Rattle.std.specs.Prelude.{◌≡◌};
-
+mod items;
+mod objects;
 mod part;
-
-pub use part::{Item, Owner, Part, Place};
-
-/// Trial.
-pub fn trial() -> u32
-    ensures { result ≡ 1 }
-{
-    1
-}
