@@ -1,6 +1,9 @@
+pub mod ClearLines
+pub mod DecidedLines
 pub mod MatrixReading
 pub mod ModuleReading
 pub mod NumberReading
+pub mod OneLine
 pub mod RowReading
 pub mod Taking
 pub mod WrittenLines

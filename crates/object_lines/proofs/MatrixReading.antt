@@ -1,17 +1,16 @@
 -- Matrices: by their rows, one by one.
-use Rattle.std.proofs.Common.{◌≡◌, ℕ, ◌+◌, ◌*◌, ◌<◌, ◌≤◌, zero, suc, Bool, true, false, List, [], ◌∷◌, ◌++◌, map, take, drop, length, get_or, All, cond, eqb, codes, decimal, refl, sym, ap, ◌∙◌, subst, inl, inr, arith, append_assoc, append-nil}
+use Rattle.std.proofs.Common.{◌≡◌, ℕ, ◌+◌, ◌*◌, ◌<◌, ◌≤◌, zero, suc, Bool, true, false, List, [], ◌∷◌, ◌++◌, take, drop, length, get_or, All, decimal, refl, sym, ap, ◌∙◌, subst, inl, inr, arith, append_assoc, append-nil}
 use Rattle.std.specs.Prelude.{MatchBool}
 use Rattle.std.specs.List.{concat}
 use Rattle.std.proofs.lemmas.Bool.{cases_lt}
-use Rattle.std.proofs.lemmas.List.{length-append, length-map, take_more, take-append-drop, get_or_past, get_or_default, get_or_append_left, get_or-append-add, ext_get_or, length-take-le}
+use Rattle.std.proofs.lemmas.List.{length-append, length-map, take-append-drop, get_or_past, get_or_default, get_or_append_left, get_or-append-add, ext_get_or, length-take-le}
 use Rattle.std.proofs.lemmas.List.Elements.{All-nil, All-cons, All-head, All-tail, All-append, All-take}
 use Rattle.std.proofs.Math.Dec.{eqb-suc-zero}
 use Rattle.std.proofs.Math.Nat.{suc-mul, zero-mul}
 use Rattle.linear_algebra.specs.Field.{Gf, order}
-use Rattle.linear_algebra.specs.FieldLaws.{order-pos}
 use Rattle.linear_algebra.specs.Rows.{IsRow, IsGrid, rows_of, list_of, entry}
 use Rattle.linear_algebra.proofs.Rows.{length-rows_of, row-rows_of, length-list_of, get_or-list_of}
-use Rattle.fp_linear.specs.Matrix.{PlainMatrix, plain, IsMatrix, most_entries}
+use Rattle.fp_linear.specs.Matrix.{PlainMatrix, plain, most_entries}
 use Rattle.fp_linear.specs.Slices.{AreElements}
 use Rattle.header_text.proofs.Joining.{concat-append}
 use Rattle.module_types.specs.Shapes.{HasShape}

@@ -1,5 +1,5 @@
 -- Numbers: what their readers conclude.
-use Rattle.std.proofs.Common.{◌≡◌, ◌≢◌, ℕ, ◌+◌, ◌<◌, ◌≤◌, ◌^◌, Bool, true, false, List, [], ◌∷◌, ◌++◌, nat_eq, eqb, eqb-true, eq-eqb, subst, decimal, refl, sym, ap, ◌∙◌, arith, lit<}
+use Rattle.std.proofs.Common.{◌≡◌, ℕ, ◌<◌, ◌≤◌, ◌^◌, Bool, true, false, List, ◌∷◌, nat_eq, eqb-true, eq-eqb, subst, decimal, refl, sym, ◌∙◌, arith, lit<}
 use Rattle.std.specs.Prelude.{MatchBool}
 use Rattle.header_text.proofs.Uniqueness.{decimal_one}
 use Rattle.object_lines.proofs.Taking.{cons_head}

@@ -18,5 +18,5 @@ pub use terms::read_term;
 pub use writing::{
     push_at_arrows, push_at_vertices, push_gen_line, push_ideal_line, push_left_line,
     push_map_line, push_middle_line, push_module_line, push_phi_line, push_power_line,
-    push_residue_line, push_row_line, push_term_line,
+    push_residue_line, push_row_line, push_row_lines, push_term_line,
 };

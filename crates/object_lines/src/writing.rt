@@ -198,6 +198,16 @@ pub fn push_row_line(out: &mut Vec<u8>, entries: &[u8]) -> Result<(), AllocError
     push_word_and_entries(out, b"row", entries)
 }
 
+/// Adds the lines of the rows of a matrix.
+pub fn push_row_lines(out: &mut Vec<u8>, m: &Matrix) -> Result<(), AllocError>
+    ensures { OnOk result (out.new.items ≡ out.old.items ++ text_of (map row_line m.now.rows)) }
+{
+    for i in 0..m.rows() {
+        push_row_line(out, m.row(i))?;
+    }
+    Ok(())
+}
+
 /// Adds the line of the row that a generator goes to.
 pub fn push_gen_line(out: &mut Vec<u8>, entries: &[u8]) -> Result<(), AllocError>
     ensures { OnOk result (out.new.items ≡ out.old.items ++ strict_line (gen_line entries.now)) }

@@ -2,7 +2,7 @@ use Rattle.std.proofs.Common.{◌≡◌, true, false, length, refl, sym, ap, sub
 use Rattle.linear_algebra.specs.Rows.{rows_of}
 use Rattle.fp_linear.specs.Matrix.{plain}
 use Rattle.fp_linear.specs.Slices.{AreElements}
-use Rattle.object_lines.proofs.MatrixReading.{matrix_is, entries_count, entries_small, no_matrix, no_longer_matrix, too_large}
+use Rattle.object_lines.proofs.MatrixReading.{matrix_is, entries_count, entries_small, no_matrix, no_longer_matrix}
 use Rattle.object_lines.proofs.matrices.read_matrix.Goals as goal
 
 pub returns-then-not-taken : goal.returns-then-not-taken

@@ -1,4 +1,4 @@
-use Rattle.object_lines.proofs.MatrixReading.{rows_none, rows_more, no_more_rows}
+use Rattle.object_lines.proofs.MatrixReading.{rows_more, no_more_rows}
 use Rattle.object_lines.proofs.matrices.take_rows.Goals as goal
 
 pub returns-then-not-taken : goal.returns-then-not-taken

@@ -1,5 +1,5 @@
 use Rattle.std.proofs.Common.{decimal}
-use Rattle.object_lines.specs.Reading.{IsElement, IsAtMost, IsVertex}
+use Rattle.object_lines.specs.Reading.{IsElement}
 use Rattle.object_lines.proofs.Taking.{no_more, takes_more}
 use Rattle.object_lines.proofs.numbers.take_entries.Goals as goal
 

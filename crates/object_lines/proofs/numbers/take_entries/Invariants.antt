@@ -1,4 +1,4 @@
-use Rattle.std.proofs.Common.{ℕ, ◌<◌, ◌≤◌, decimal}
+use Rattle.std.proofs.Common.{decimal}
 use Rattle.object_lines.specs.Reading.{Takes, IsElement}
 use Rattle.object_lines.proofs.numbers.take_entries.Given as goal
 

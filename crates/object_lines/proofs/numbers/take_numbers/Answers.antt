@@ -1,5 +1,5 @@
 use Rattle.std.proofs.Common.{decimal}
-use Rattle.object_lines.specs.Reading.{IsElement, IsAtMost, IsVertex}
+use Rattle.object_lines.specs.Reading.{IsAtMost}
 use Rattle.object_lines.proofs.Taking.{no_more, takes_more}
 use Rattle.object_lines.proofs.numbers.take_numbers.Goals as goal
 

@@ -1,5 +1,5 @@
-use Rattle.std.proofs.Common.{ℕ, ◌<◌, ◌≤◌, decimal}
-use Rattle.object_lines.specs.Reading.{Takes, IsAtMost, IsVertex}
+use Rattle.std.proofs.Common.{decimal}
+use Rattle.object_lines.specs.Reading.{Takes, IsAtMost}
 use Rattle.object_lines.proofs.numbers.take_numbers.Given as goal
 
 abbrev pub invariant-loop-taken : goal.invariant-loop-taken

@@ -1,6 +1,5 @@
-use Rattle.std.proofs.Common.{decimal}
 use Rattle.header_text.specs.Spelling.{vertex_name}
-use Rattle.object_lines.specs.Reading.{IsElement, IsAtMost, IsVertex}
+use Rattle.object_lines.specs.Reading.{IsVertex}
 use Rattle.object_lines.proofs.Taking.{no_more, takes_more}
 use Rattle.object_lines.proofs.numbers.take_vertices.Goals as goal
 

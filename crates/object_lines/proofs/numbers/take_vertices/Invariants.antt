@@ -1,7 +1,5 @@
-use Rattle.std.proofs.Common.{ℕ, ◌<◌, ◌≤◌, decimal}
 use Rattle.header_text.specs.Spelling.{vertex_name}
-use Rattle.quiver_paths.specs.Quiver.{vertex_count}
-use Rattle.object_lines.specs.Reading.{Takes, IsAtMost, IsVertex}
+use Rattle.object_lines.specs.Reading.{Takes, IsVertex}
 use Rattle.object_lines.proofs.numbers.take_vertices.Given as goal
 
 abbrev pub invariant-loop-taken : goal.invariant-loop-taken

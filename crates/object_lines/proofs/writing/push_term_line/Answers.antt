@@ -1,4 +1,4 @@
-use Rattle.std.proofs.Common.{[], ◌∷◌, ◌++◌, codes, decimal, map, length, ap, ◌∙◌}
+use Rattle.std.proofs.Common.{[], ◌∷◌, codes, decimal, map, length}
 use Rattle.header_text.specs.Spelling.{vertex_name}
 use Rattle.object_lines.proofs.WrittenLines.{line_is, then_tokens, then_token, one_token}
 use Rattle.object_lines.proofs.writing.push_term_line.Goals as goal
