@@ -1,5 +1,5 @@
 -- Claims' first lines: what fits has one spelling, and whether some tokens spell one is decided.
-use Rattle.std.proofs.Common.{◌≡◌, ◌≢◌, ℕ, ◌+◌, ◌<◌, ◌≤◌, ◌^◌, List, [], ◌∷◌, drop, codes, decimal, ◌⊎◌, inl, inr, refl, sym, ap, ◌∙◌, subst, arith, lit<, lit≤}
+use Rattle.std.proofs.Common.{◌≡◌, ℕ, ◌+◌, ◌<◌, ◌^◌, List, drop, inl, inr, sym, ap, ◌∙◌, subst, arith}
 use Rattle.report_types.specs.declared.claims.PartClaim.{PartClaim}
 use Rattle.report_types.specs.declared.claims.Translation.{Translation}
 use Rattle.report_types.specs.declared.claims.Translation.TheVariants.{Tau, Transpose, Taui}

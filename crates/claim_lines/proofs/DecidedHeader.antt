@@ -37,11 +37,11 @@ is_nil (x ∷ xs) = inr (λ e. some x xs e)
 open_decided : (p : Part) → Decided (IsOpen p)
 open_decided p = like (λ h. record { begun = h.0; unbound = h.1 }) (λ h. (h.begun, h.unbound)) (both (is_true p.is_begun) (cases_eq p.header.bound 0))
 
-name_decided : (n : List ℕ) → Decided (IsName n)
+pub name_decided : (n : List ℕ) → Decided (IsName n)
 name_decided n = like (λ h. record { some = h.0; short = h.1; spelled = h.2 }) (λ h. (h.some, h.short, h.spelled))
     (three (below 0 (length n)) (at_most (length n) 16) (of_each (λ b. IsTrue (is_name_byte b)) (λ b. tested (is_name_byte b)) n))
 
-arrow_name_decided : (n : List ℕ) → Decided (IsArrowName n)
+pub arrow_name_decided : (n : List ℕ) → Decided (IsArrowName n)
 arrow_name_decided n = like (λ h. record { name = h.0; letter = h.1 }) (λ h. (h.name, h.letter)) (both (name_decided n) (tested _))
 
 vertex_decided : (p : Part) (n : List ℕ) → Decided (FitsVertex p n)

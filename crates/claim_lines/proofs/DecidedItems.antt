@@ -20,7 +20,7 @@ use Rattle.report_types.specs.Limits.{length_limit}
 use Rattle.report_types.specs.BasisBlocks.{IsWrittenRule}
 use Rattle.claim_lines.specs.Spelling.{tail_form, rule_line}
 use Rattle.claim_lines.specs.Items.{IsCount, FitsWord, FitsStep, FitsRule}
-use Rattle.deciding.proofs.Deciding.{Decided, both, like, three, four, fails, if_so, below, at_most, of_each, IsListed, fewer, just, either, images, pairs, numbers_below, lists_to}
+use Rattle.deciding.proofs.Deciding.{Decided, both, like, three, four, fails, if_so, below, at_most, of_each, IsListed, fewer, either, images, pairs, numbers_below, lists_to}
 use Rattle.deciding.proofs.DecidedPaths.{number_decided, path_decided, same_paths, short_decided, tail_decided, IsPathBelow, paths_listed, IsTermBelow, terms_listed, tail_terms}
 
 -- ---- numerals

@@ -1,10 +1,9 @@
 -- Last lines: what a line says is found from its tokens, but for the arrow and the path that it names; and what their readers conclude.
-use Rattle.std.proofs.Common.{◌≡◌, ◌≢◌, ℕ, ◌<◌, ◌≤◌, ◌^◌, List, [], ◌∷◌, zero, suc, length, get_or, Some, None, cond, codes, decimal, refl, sym, ap, ◌∙◌, subst, arith, lit<, lit≤}
+use Rattle.std.proofs.Common.{◌≡◌, ◌≢◌, ℕ, ◌<◌, ◌^◌, List, [], ◌∷◌, zero, suc, length, get_or, cond, codes, decimal, refl, sym, ap, ◌∙◌, subst, arith, lit≤}
 use Rattle.std.specs.declared.option.Option.{Option}
 use Rattle.quiver_paths.specs.declared.Path.{Path}
 use Rattle.quiver_paths.specs.Quiver.{arrow_count}
 use Rattle.path_algebra.specs.declared.Header.{Header}
-use Rattle.path_algebra.specs.Derivations.{IsNumber}
 use Rattle.header_text.specs.Named.{IsNamed}
 use Rattle.header_text.specs.Reading.{Reads}
 use Rattle.header_text.proofs.Uniqueness.{one_arrow}
@@ -16,7 +15,7 @@ use Rattle.report_types.specs.Ends.{IsWhy, IsBoundPath, IsFullEnd, IsEmptyEnd, I
 use Rattle.report_types.specs.Limits.{IsLine}
 use Rattle.claim_lines.specs.Spelling.{why_form, end_line}
 use Rattle.claim_lines.specs.Items.{FitsEnd}
-use Rattle.claim_lines.proofs.Tokens.{is_same, token, number, value, value_is, number_is, few_is, one, two}
+use Rattle.claim_lines.proofs.Tokens.{is_same, token, number, value_is, number_is, few_is, one, two}
 use Rattle.claim_lines.proofs.NumberReading.{head_is, tail_is}
 use Rattle.claim_lines.proofs.PathReading.{one_any_path}
 use Rattle.claim_lines.proofs.ReferenceReading.{reference_at, reference_back}
@@ -129,10 +128,6 @@ pub no_refused : (h : Header) (claims : ℕ) (ts : List (List ℕ)) → ((x : �
     → codes "refused" ∷ ts ≡ end_line h claims x → ⊥
 no_refused h claims ts none Done is e = end_not_refused (sym (head_is _ _ _ _ e))
 no_refused h claims ts none (Refused line w) is e = none (line, w) is (tail_is _ _ _ _ e)
-
-pub no_last : (h : Header) (claims : ℕ) (w : List ℕ) (ts : List (List ℕ)) → w ≢ codes "end" → w ≢ codes "refused" → (x : End) → IsFullEnd h x → w ∷ ts ≡ end_line h claims x → ⊥
-no_last h claims w ts a b Done is e = a (head_is _ _ _ _ e)
-no_last h claims w ts a b (Refused line y) is e = b (head_is _ _ _ _ e)
 
 -- too many paths
 pub record IsLimit (w : Why) : Type 0 where

@@ -1,19 +1,16 @@
 -- Claims' first lines: what a line says is found from its tokens, so different ones have different spellings; and what their readers conclude.
-use Rattle.std.proofs.Common.{◌≡◌, ◌≢◌, ℕ, ◌+◌, ◌<◌, ◌≤◌, ◌^◌, List, [], ◌∷◌, ◌++◌, drop, cond, codes, decimal, refl, sym, ap, ◌∙◌, subst, arith, lit<, lit≤}
+use Rattle.std.proofs.Common.{◌≡◌, ◌≢◌, ℕ, ◌<◌, ◌^◌, List, [], ◌∷◌, ◌++◌, drop, cond, codes, decimal, refl, sym, ap, ◌∙◌, subst, arith, lit≤}
 use Rattle.std.specs.Prelude.{All}
 use Rattle.std.proofs.lemmas.List.Elements.{All-head, All-tail}
-use Rattle.path_algebra.specs.Derivations.{IsNumber}
 use Rattle.report_types.specs.declared.claims.PartClaim.{PartClaim}
 use Rattle.report_types.specs.declared.claims.Translation.{Translation}
 use Rattle.report_types.specs.declared.claims.Translation.TheVariants.{Tau, Transpose, Taui}
-use Rattle.report_types.specs.Limits.{IsLine}
 use Rattle.claim_lines.specs.declared.heads.Head.{Head}
 use Rattle.claim_lines.specs.declared.heads.Head.TheVariants as head
-use Rattle.claim_lines.specs.Spelling.{parts_form, translate_form, head_form, claim_line}
-use Rattle.claim_lines.specs.Items.{ArePartNumbers, AreTranslateNumbers, AreNumbers, FitsClaim}
-use Rattle.claim_lines.specs.Reading.{IsNoFirstWord}
-use Rattle.claim_lines.proofs.Tokens.{value, value_is, is_same, token, number, small, number_is, few_is, line_small, one, two, three, four}
-use Rattle.claim_lines.proofs.NumberReading.{head_is, tail_is}
+use Rattle.claim_lines.specs.Spelling.{parts_form, translate_form, head_form}
+use Rattle.claim_lines.specs.Items.{ArePartNumbers, AreNumbers}
+use Rattle.claim_lines.proofs.Tokens.{value, is_same, token, number, number_is, few_is, one, two, three, four}
+use Rattle.claim_lines.proofs.NumberReading.{tail_is}
 
 -- ---- found from the tokens
 
@@ -114,48 +111,6 @@ none_is k m' f' few ts none x is e =
 
 pub one_head : (earlier modules maps : ℕ) → AreFew earlier modules maps → (x y : Head) → AreNumbers earlier modules maps x → AreNumbers earlier modules maps y → head_form x ≡ head_form y → x ≡ y
 one_head k m' f' few x y a b e = sym (head_back k m' f' few x a) ∙ (ap head_from e ∙ head_back k m' f' few y b)
-
--- a word that begins no line
-pub no_word : (w : List ℕ) (ts : List (List ℕ)) → IsNoFirstWord w → w ≢ codes "resolution" → w ≢ codes "ext" → w ≢ codes "local" → w ≢ codes "tau" → w ≢ codes "transpose" → w ≢ codes "taui"
-    → w ≢ codes "almostsplit" → (x : Head) → w ∷ ts ≡ head_form x → ⊥
-no_word w ts first a b c d e f g head.Basis h = first.basis (head_is _ _ _ _ h)
-no_word w ts first a b c d e f g (head.Module m) h = first.is_module (head_is _ _ _ _ h)
-no_word w ts first a b c d e f g (head.Map m) h = first.is_map (head_is _ _ _ _ h)
-no_word w ts first a b c d e f g (head.Hom x y z) h = first.hom (head_is _ _ _ _ h)
-no_word w ts first a b c d e f g (head.Kernel x y z) h = first.kernel (head_is _ _ _ _ h)
-no_word w ts first a b c d e f g (head.Cokernel x y z) h = first.cokernel (head_is _ _ _ _ h)
-no_word w ts first a b c d e f g (head.Radical x y z) h = first.radical (head_is _ _ _ _ h)
-no_word w ts first a b c d e f g (head.Resolution x n) h = a (head_is _ _ _ _ h)
-no_word w ts first a b c d e f g (head.Ext n x y z r) h = b (head_is _ _ _ _ h)
-no_word w ts first a b c d e f g (head.Local m n) h = c (head_is _ _ _ _ h)
-no_word w ts first a b c d e f g (head.Decomposition x s i j ps) h = first.decomposition (head_is _ _ _ _ h)
-no_word w ts first a b c d e f g (head.Translate Tau x y z) h = d (head_is _ _ _ _ h)
-no_word w ts first a b c d e f g (head.Translate Transpose x y z) h = e (head_is _ _ _ _ h)
-no_word w ts first a b c d e f g (head.Translate (Taui u) x y z) h = f (head_is _ _ _ _ h)
-no_word w ts first a b c d e f g (head.AlmostSplit x y z i j k l) h = g (head_is _ _ _ _ h)
-
-pub no_token : (x : Head) → [] ≡ head_form x → ⊥
-no_token x e = some x (sym e)
-  where
-    nonempty : (t : List ℕ) (ts : List (List ℕ)) → t ∷ ts ≡ [] → ⊥
-    nonempty t ts e = cc
-
-    some : (x : Head) → head_form x ≡ [] → ⊥
-    some head.Basis e = nonempty _ _ e
-    some (head.Module m) e = nonempty _ _ e
-    some (head.Map m) e = nonempty _ _ e
-    some (head.Hom x y z) e = nonempty _ _ e
-    some (head.Kernel x y z) e = nonempty _ _ e
-    some (head.Cokernel x y z) e = nonempty _ _ e
-    some (head.Radical x y z) e = nonempty _ _ e
-    some (head.Resolution x n) e = nonempty _ _ e
-    some (head.Ext n x y z r) e = nonempty _ _ e
-    some (head.Local m n) e = nonempty _ _ e
-    some (head.Decomposition x s i j ps) e = nonempty _ _ e
-    some (head.Translate Tau x y z) e = nonempty _ _ e
-    some (head.Translate Transpose x y z) e = nonempty _ _ e
-    some (head.Translate (Taui u) x y z) e = nonempty _ _ e
-    some (head.AlmostSplit x y z i j k l) e = nonempty _ _ e
 
 -- ---- parts one by one
 

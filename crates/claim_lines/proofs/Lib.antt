@@ -12,6 +12,8 @@ pub mod SpacedTokens
 pub mod HeadReading
 pub mod DecidedClaims
 pub mod ClearClaims
+pub mod DecidedEnds
+pub mod ClearEnds
 pub mod Clear
 pub mod DecidedHeader
 pub mod DecidedItems

@@ -1,5 +1,5 @@
 -- Numbers and the fronts of lines: what their readers conclude.
-use Rattle.std.proofs.Common.{◌≡◌, ◌≢◌, ℕ, ◌<◌, ◌≤◌, ◌^◌, List, [], ◌∷◌, decimal, sym, ◌∙◌, arith, lit<}
+use Rattle.std.proofs.Common.{◌≡◌, ◌≢◌, ℕ, ◌<◌, ◌≤◌, ◌^◌, List, ◌∷◌, decimal, sym, ◌∙◌, arith, lit<}
 use Rattle.header_text.proofs.Uniqueness.{decimal_one}
 
 pub head_is : (x y : List ℕ) (xs ys : List (List ℕ)) → x ∷ xs ≡ y ∷ ys → x ≡ y

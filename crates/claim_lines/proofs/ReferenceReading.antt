@@ -1,6 +1,5 @@
 -- References: name and value are found from the token, so different ones have different spellings.
-use Rattle.std.proofs.Common.{◌≡◌, ◌≢◌, ℕ, ◌<◌, ◌≤◌, ◌^◌, Bool, true, false, List, [], ◌∷◌, ◌++◌, cond, eqb, codes, decimal, inl, inr, refl, sym, ap, ◌∙◌, subst, arith, lit<, lit≤, append-nil}
-use Rattle.std.specs.Prelude.{All}
+use Rattle.std.proofs.Common.{◌≡◌, ◌≢◌, ℕ, ◌<◌, ◌^◌, true, false, List, [], ◌∷◌, ◌++◌, cond, eqb, codes, decimal, inl, inr, refl, sym, ap, ◌∙◌, subst, lit≤, append-nil}
 use Rattle.std.proofs.lemmas.Bool.{false_from_ne_true}
 use Rattle.std.proofs.lemmas.Bool.Decides.{eqb_tells}
 use Rattle.std.proofs.lemmas.List.Elements.{All-nil, All-cons, All-head}
@@ -10,7 +9,7 @@ use Rattle.quiver_paths.specs.declared.names.Suffix.TheVariants as suffix
 use Rattle.quiver_paths.specs.Name.{IsName}
 use Rattle.path_algebra.specs.Allowed.{IsArrowName}
 use Rattle.path_algebra.specs.Derivations.{IsNumber}
-use Rattle.text_lines.specs.Parts.{Lacks, parts, joined}
+use Rattle.text_lines.specs.Parts.{Lacks, parts}
 use Rattle.text_lines.proofs.Cutting.{parts-joined_all}
 use Rattle.header_text.proofs.Clean.{name_lacks, decimal_lacks, not_lacks, one_cut}
 use Rattle.report_types.specs.Ends.{IsToken}

@@ -1,5 +1,5 @@
 -- What the readers of pieces of a line answer.
-use Rattle.std.specs.Prelude.{ℕ, ⊤, ◌≡◌, ◌≢◌, ◌<◌, ◌≤◌, ◌^◌, Bool, true, false, List, [], ◌∷◌, ◌++◌, codes, All, AllPairs, decimal, Some, None}
+use Rattle.std.specs.Prelude.{ℕ, ⊤, ◌≡◌, ◌≢◌, ◌<◌, ◌≤◌, Bool, true, false, List, [], ◌∷◌, ◌++◌, codes, All, AllPairs, decimal, Some, None}
 use Rattle.std.specs.declared.option.Option.{Option}
 use Rattle.linear_algebra.specs.Field.{order}
 use Rattle.quiver_paths.specs.declared.names.Suffix.{Suffix}

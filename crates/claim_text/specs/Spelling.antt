@@ -41,14 +41,24 @@ at_arrows h matrices = at_lines (arrow_name h.quiver) 0 matrices
 abbrev pub at_vertices : Header → List PlainMatrix → List (List (List ℕ))
 at_vertices h matrices = at_lines (vertex_name h.quiver) 0 matrices
 
+-- the lines of things in their order, each by its number, of which the first is k
+abbrev pub in_order : {X : Type 0} → (ℕ → X → List (List (List ℕ))) → ℕ → List X → List (List (List ℕ))
+in_order lines k [] = []
+in_order lines k (x ∷ xs) = lines k x ++ in_order lines (k + 1) xs
+
+-- a module and a map behind so many
+abbrev pub module_block : Header → ℕ → Module → List (List (List ℕ))
+module_block h before m = module_line (before + 1) m.side m.dims ∷ at_arrows h m.matrices
+
+abbrev pub map_block : Header → ℕ → Map → List (List (List ℕ))
+map_block h before f = map_line (before + 1) f.source f.target ∷ at_vertices h f.matrices
+
 -- the lines of modules behind so many, and of maps
 abbrev pub module_lines : Header → ℕ → List Module → List (List (List ℕ))
-module_lines h before [] = []
-module_lines h before (m ∷ modules) = (module_line (before + 1) m.side m.dims ∷ at_arrows h m.matrices) ++ module_lines h (before + 1) modules
+module_lines h before modules = in_order (module_block h) before modules
 
 abbrev pub map_lines : Header → ℕ → List Map → List (List (List ℕ))
-map_lines h before [] = []
-map_lines h before (f ∷ maps) = (map_line (before + 1) f.source f.target ∷ at_vertices h f.matrices) ++ map_lines h (before + 1) maps
+map_lines h before maps = in_order (map_block h) before maps
 
 -- ---- claims
 
@@ -68,10 +78,12 @@ head_of (claim.Decomposition a s f g parts) = head.Decomposition a s f g parts
 head_of (claim.Translate which n a c rows) = head.Translate which n a c
 head_of (claim.AlmostSplit n e a f g c l phi left middle) = head.AlmostSplit n e a f g c l
 
--- the terms of a resolution, of which the first has the number k: each with the rows of its generators
+-- term k of a resolution, with the rows of its generators; the terms from number k on
+abbrev pub term_block : Quiver → ℕ → TermRows → List (List (List ℕ))
+term_block Q k t = term_line Q k t.vertices ∷ map gen_line t.images
+
 abbrev pub term_lines : Quiver → ℕ → List TermRows → List (List (List ℕ))
-term_lines Q k [] = []
-term_lines Q k (t ∷ terms) = (term_line Q k t.vertices ∷ map gen_line t.images) ++ term_lines Q (k + 1) terms
+term_lines Q k terms = in_order (term_block Q) k terms
 
 -- the lines behind the first
 abbrev pub claim_block : Header → Claim → List (List (List ℕ))

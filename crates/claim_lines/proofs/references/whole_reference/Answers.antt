@@ -1,4 +1,3 @@
-use Rattle.std.proofs.Common.{◌≡◌, true, false}
 use Rattle.claim_lines.proofs.ReferenceReading.{no_whole}
 use Rattle.claim_lines.proofs.references.whole_reference.Goals as goal
 
