@@ -119,7 +119,7 @@ module _ (h : Header) (ok : IsAllowed h) where
               let same : p ≡ fill (state done) o = sym (ap (λ l. at_matrices (state l) o) (filled_entry h.field R C (count_of h o) done some) ∙ open_at done inside) in
               subst (λ ls. Run (fill (state done) o) ls end) (sym (at_lines-entry (name_of h.quiver o) i a rest differs))
               (subst (λ q. Run q (ts ∷ at_lines (name_of h.quiver o) (i + 1) rest) end) same
-              (run_line p (with_matrix p o a) end ts (at_lines (name_of h.quiver o) (i + 1) rest) (λ c out. matrix_clear c out p o a named fits) refl
+              (run_line p (with_matrix p o a) end ts (at_lines (name_of h.quiver o) (i + 1) rest) (λ c out apart. matrix_clear c out apart p o a named fits) refl
               (taken (FitsMatrix p o) (at_line (name_of h.quiver o i)) (with_matrix p o) a fits (one_matrix p o)) next))
         ]
 
@@ -145,7 +145,7 @@ module _ (h : Header) (ok : IsAllowed h) where
       let counted = are.counted in
       let rest = reads_matrices rs ms [] m.dims (owner.Module m.side) [] m.matrices (omega (arith, counted)) are in
       subst (λ n. Run p (module_line n m.side m.dims ∷ at_arrows h m.matrices) (between rs (ms ++ m ∷ []) [])) number
-      (run_line p (with_item p x) (between rs (ms ++ m ∷ []) []) (item_line p x) (at_lines (arrow_name h.quiver) 0 m.matrices) (λ c out. item_clear c out p x named few_relations fits) refl (taken (FitsItem p) (item_line p) (with_item p) x fits (one_item p named few_relations)) rest)
+      (run_line p (with_item p x) (between rs (ms ++ m ∷ []) []) (item_line p x) (at_lines (arrow_name h.quiver) 0 m.matrices) (λ c out o. item_clear c out o p x named few_relations fits) refl (taken (FitsItem p) (item_line p) (with_item p) x fits (one_item p named few_relations)) rest)
 
   pub modules_read : (rs : List Record) (done todo : List Module) (k : ℕ) → 0 < length rs → k ≡ length (modules_of rs) + length done → length (modules_of rs) + (length done + length todo) < 2 ^ 32 → All (IsModuleBlock h) todo
       → Run (between rs done []) (module_lines h k todo) (between rs (done ++ todo) [])
@@ -170,7 +170,7 @@ module _ (h : Header) (ok : IsAllowed h) where
       let counted = block.matrices.counted in
       let rest = reads_matrices rs ms fs [] (owner.Map f.source f.target) [] f.matrices (omega (arith, counted)) block.matrices in
       subst (λ n. Run p (map_line n f.source f.target ∷ at_vertices h f.matrices) (between rs ms (fs ++ f ∷ []))) number
-      (run_line p (with_item p x) (between rs ms (fs ++ f ∷ [])) (item_line p x) (at_lines (vertex_name h.quiver) 0 f.matrices) (λ c out. item_clear c out p x named few_relations fits) refl (taken (FitsItem p) (item_line p) (with_item p) x fits (one_item p named few_relations)) rest)
+      (run_line p (with_item p x) (between rs ms (fs ++ f ∷ [])) (item_line p x) (at_lines (vertex_name h.quiver) 0 f.matrices) (λ c out o. item_clear c out o p x named few_relations fits) refl (taken (FitsItem p) (item_line p) (with_item p) x fits (one_item p named few_relations)) rest)
 
   pub maps_read : (rs all : List Record) (ms : List Module) (done todo : List Map) (k : ℕ) → 0 < length rs → modules_of all ≡ modules_of rs ++ ms → k ≡ length (maps_of rs) + length done
       → length (maps_of rs) + (length done + length todo) < 2 ^ 32 → length (modules_of rs) + length ms < 2 ^ 32 → All (IsMapBlock h all) todo → Run (between rs ms done) (map_lines h k todo) (between rs ms (done ++ todo))

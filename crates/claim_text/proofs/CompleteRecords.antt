@@ -36,6 +36,7 @@ use Rattle.claim_lines.specs.declared.heads.Head.{Head}
 use Rattle.claim_lines.specs.declared.heads.Head.TheVariants as head
 use Rattle.claim_lines.specs.Spelling.{title_line, claim_line, end_line}
 use Rattle.claim_lines.specs.Items.{FitsClaim, FitsEnd, ArePartNumbers}
+use Rattle.object_lines.proofs.ClearLines.{space_stands}
 use Rattle.claim_lines.proofs.Clear.{Outside, title_clear, space}
 use Rattle.claim_text.specs.declared.part.Place.{Place}
 use Rattle.claim_text.specs.declared.part.Place.TheVariants as place
@@ -90,7 +91,7 @@ module _ (h : Header) (ok : IsAllowed h) where
 
   front_read : Run start (title_line ∷ header_lines h) open_header
   front_read =
-      run_line start (header_at header_start) open_header title_line (header_lines h) (λ c out. title_clear c out) refl record { title = refl; leads = refl }
+      run_line start (header_at header_start) open_header title_line (header_lines h) (λ c out o. title_clear c out) refl record { title = refl; leads = refl }
       record { reads = header_reads header_start record { is_begun = true; header = h } (map strict_line (header_lines h)) (reads_header header_start h header_is_start ok); lacks = header_lacks h ok }
 
   -- ---- claims
@@ -120,7 +121,7 @@ module _ (h : Header) (ok : IsAllowed h) where
     head_read : (line : ℕ) (x : Head) (q : Part) → with_head p line x ≡ q → FitsHead p line x → Run p (claim_line (length rs + 1) line x ∷ []) q
     head_read line x q e fits =
         let y = item.Claim line x in
-        run_line p (with_item p y) q (item_line p y) [] (λ c out. item_clear c out p y named few_relations fits) refl (taken (FitsItem p) (item_line p) (with_item p) y fits (one_item p named few_relations)) (run_none (with_item p y) q (sym e))
+        run_line p (with_item p y) q (item_line p y) [] (λ c out o. item_clear c out o p y named few_relations fits) refl (taken (FitsItem p) (item_line p) (with_item p) y fits (one_item p named few_relations)) (run_none (with_item p y) q (sym e))
 
     part_numbers : (line : ℕ) (c : Claim) (parts : List PartClaim) → All (IsPart h (with_claim line c)) parts → All (ArePartNumbers (length rs) (counts_of p).modules) parts
     part_numbers line c parts are = λ i d l.
@@ -226,11 +227,11 @@ module _ (h : Header) (ok : IsAllowed h) where
       let low = ok.bound_from in
       let p = open_header in
       let fits : FitsItem p x = record { few_modules = lit< tt; few_maps = lit< tt; claim = record { room = lit< tt; is_line = is.line; numbers = tt }; judged = tt; kind = record { first = refl; no_module = refl; no_map = refl } } in
-      let clear = item_clear 32 space p x named few_relations fits in
+      let clear = item_clear 32 space space_stands p x named few_relations fits in
       let opens : is_header_line place.Header (strict_line (item_line p x)) ≡ false = ap (λ ts. cond (lexed_begins ts) false true) (strict_tokens-strict_line (item_line p x) clear.some clear.lacks) in
       let step : TokenStep place.Header p (item_line p x) (with_item p x) = record { ends = omega (arith, low); first = taken (FitsItem p) (item_line p) (with_item p) x fits (one_item p named few_relations) } in
       let goal : Run p (record_lines h 0 0 0 record { line = line; modules = []; maps = []; claim = c }) (between h ok (record { line = line; modules = []; maps = []; claim = c } ∷ []) [] []) =
-      run_line p (with_item p x) (with_basis h ok line words steps rules) (item_line p x) (block_lines h.quiver words steps rules) (λ c out. item_clear c out p x named few_relations fits) opens step (basis_read h ok line words steps rules is.claim) in
+      run_line p (with_item p x) (with_basis h ok line words steps rules) (item_line p x) (block_lines h.quiver words steps rules) (λ c out o. item_clear c out o p x named few_relations fits) opens step (basis_read h ok line words steps rules is.claim) in
       subst (λ l. Run p (record_lines h 0 0 0 record { line = line; modules = l; maps = fs; claim = c }) (between h ok (record { line = line; modules = l; maps = fs; claim = c } ∷ []) [] [])) (sym is.place.1)
       (subst (λ l. Run p (record_lines h 0 0 0 record { line = line; modules = []; maps = l; claim = c }) (between h ok (record { line = line; modules = []; maps = l; claim = c } ∷ []) [] [])) (sym is.place.2) goal)
   first_read line ms fs (claim.Module m) is = absurd (let l = is.place in omega (arith, l))
@@ -258,18 +259,18 @@ module _ (h : Header) (ok : IsAllowed h) where
       let p = open_header in
       let x = item.End e in
       let low = ok.bound_from in
-      let fits : FitsItem p x = record { no_module = refl; no_map = refl; ends = is } in
-      let clear = item_clear 32 space p x named few_relations fits in
+      let fits : FitsItem p x = record { few = lit< tt; no_module = refl; no_map = refl; ends = is } in
+      let clear = item_clear 32 space space_stands p x named few_relations fits in
       let opens : is_header_line place.Header (strict_line (item_line p x)) ≡ false = ap (λ ts. cond (lexed_begins ts) false true) (strict_tokens-strict_line (item_line p x) clear.some clear.lacks) in
-      run_line p (with_item p x) (ended [] e) (item_line p x) [] (λ c out. item_clear c out p x named few_relations fits) opens record { ends = omega (arith, low); first = taken (FitsItem p) (item_line p) (with_item p) x fits (one_item p named few_relations) }
+      run_line p (with_item p x) (ended [] e) (item_line p x) [] (λ c out o. item_clear c out o p x named few_relations fits) opens record { ends = omega (arith, low); first = taken (FitsItem p) (item_line p) (with_item p) x fits (one_item p named few_relations) }
       (run_none (with_item p x) (ended [] e) refl)
 
-  full_ends : (r : Record) (rest : List Record) (e : End) → IsFullEnd h e → Run (between h ok (r ∷ rest) [] []) (end_line h (length (r ∷ rest)) e ∷ []) (ended (r ∷ rest) e)
-  full_ends r rest e is =
+  full_ends : (r : Record) (rest : List Record) (e : End) → length (r ∷ rest) < 2 ^ 32 → IsFullEnd h e → Run (between h ok (r ∷ rest) [] []) (end_line h (length (r ∷ rest)) e ∷ []) (ended (r ∷ rest) e)
+  full_ends r rest e few is =
       let p = between h ok (r ∷ rest) [] [] in
       let x = item.End e in
-      let fits : FitsItem p x = record { no_module = refl; no_map = refl; ends = is } in
-      run_line p (with_item p x) (ended (r ∷ rest) e) (item_line p x) [] (λ c out. item_clear c out p x named few_relations fits) refl (taken (FitsItem p) (item_line p) (with_item p) x fits (one_item p named few_relations)) (run_none (with_item p x) (ended (r ∷ rest) e) refl)
+      let fits : FitsItem p x = record { few = few; no_module = refl; no_map = refl; ends = is } in
+      run_line p (with_item p x) (ended (r ∷ rest) e) (item_line p x) [] (λ c out o. item_clear c out o p x named few_relations fits) refl (taken (FitsItem p) (item_line p) (with_item p) x fits (one_item p named few_relations)) (run_none (with_item p x) (ended (r ∷ rest) e) refl)
 
   report_reads : (rs : List Record) (e : End) → IsReport record { header = h; records = rs; end = e } → All (λ (r : Record). IsJudged r.claim) rs
       → Run start (report_lines record { header = h; records = rs; end = e }) (ended rs e)
@@ -285,7 +286,7 @@ module _ (h : Header) (ok : IsAllowed h) where
       run_append start open_header (ended (r ∷ rest) e) (title_line ∷ header_lines h) (records_lines h 0 0 0 (r ∷ rest) ++ end_line h (length (r ∷ rest)) e ∷ []) front_read
       (run_append open_header (between h ok (r ∷ rest) [] []) (ended (r ∷ rest) e) (records_lines h 0 0 0 (r ∷ rest)) (end_line h (length (r ∷ rest)) e ∷ [])
       (run_append open_header (between h ok (r ∷ []) [] []) (between h ok (r ∷ rest) [] []) (record_lines h 0 0 0 r) (records_lines h (0 + length r.modules) (0 + length r.maps) (0 + 1) rest) first more')
-      (full_ends r rest e is.ends))
+      (full_ends r rest e is.few is.ends))
 
 -- the lines of a report are read, and lead to it
 pub record ReadsTo (r : Report) (xs : List (List ℕ)) : Type 0 where

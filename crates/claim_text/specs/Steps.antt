@@ -91,6 +91,7 @@ pub record FitsHead (p : Part) (line : ℕ) (x : Head) : Type 0 where
 
 -- the last line: directly behind a whole record, or behind the header
 pub record FitsLast (p : Part) (e : End) : Type 0 where
+  pub few : length p.records < 2 ^ 32
   pub no_module : p.modules ≡ []
   pub no_map : p.maps ≡ []
   pub ends : FitsEnd p.front.header (length p.records) e

@@ -1,6 +1,7 @@
-//! Reports as texts: their one spelling, writing them, and reading them.
+//! Reports as texts: their one spelling, and what may follow what has been read of one.
 #![tactic(auto)]
 
-mod items;
-mod objects;
+pub mod laws;
 mod part;
+
+pub use part::{Item, Owner, Part, Place};
