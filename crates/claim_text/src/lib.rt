@@ -2,6 +2,8 @@
 #![tactic(auto)]
 
 pub mod laws;
+mod objects;
 mod part;
+mod taking;
 
 pub use part::{Item, Owner, Part, Place};

@@ -1,0 +1,199 @@
+//! Reading one line more.
+ghost use Rattle.std.specs.Prelude.{ℕ, ◌≡◌, ◌<◌, ◌≤◌, ◌+◌, ◌∷◌, [], List, length, codes, decimal, Some, IfOk, OnOk, MatchBool, MatchOption};
+ghost use Rattle.text_lines.specs.Strict.{strict_tokens};
+ghost use Rattle.header_text.specs.Reading.{Reads};
+ghost use Rattle.report_types.specs.Limits.{path_limit};
+ghost use Rattle.report_types.specs.declared.claims.Claim.TheVariants as Said;
+ghost use Rattle.claim_text.specs.declared.part.Part.{Part};
+ghost use Rattle.claim_lines.specs.Spelling.{words_line, steps_line, rules_line, word_line, step_line, rule_line};
+ghost use Rattle.claim_lines.specs.Items.{IsCount, FitsWord, FitsStep, FitsRule};
+ghost use Rattle.claim_text.specs.Part.{words_place, steps_place, claimed, at_rules, with_word_count, with_word, with_step_count, with_step, with_rule_count, with_rule};
+ghost use Rattle.claim_text.specs.Steps.{Takes, TakesTitle, TakesFirst, FitsItem, item_line, TokenStep, lexed_begins, LexedStep, FrontStep, is_header_line, Step};
+
+use crate::part::{Part, Place};
+use claim_lines::{Words, only_count, read_rule, read_step, read_word};
+use report_types::{Claim, Record};
+use seq::Seq;
+use std::mem;
+use header_text::only_number;
+use std::alloc::{AllocError, Global};
+use text_lines::{LineReader, Parts, strict_tokens};
+
+fn words_place(n: u64, k: usize) -> Place
+    ensures { result ≡ words_place n k }
+{
+    if k as u64 == n {
+        Place::StepCount
+    } else {
+        Place::Words(n)
+    }
+}
+
+fn steps_place(n: u64, k: usize) -> Place
+    ensures { result ≡ steps_place n k }
+{
+    if k as u64 == n {
+        Place::RuleCount
+    } else {
+        Place::Steps(n)
+    }
+}
+
+impl Part {
+    fn take_title(&mut self, tokens: Parts<'_>) -> bool
+        ensures { MatchBool result (TakesTitle self.old tokens.entry self.new) ((next : Part) → ¬ TakesTitle self.old tokens.entry next) }
+    {
+        let mut tokens = tokens;
+        if !tokens.take_word(b"report") || !tokens.take_word(b"1") || !tokens.is_done() {
+            return false;
+        }
+        self.place = Place::Header;
+        true
+    }
+
+    fn take_word_count(&mut self, tokens: Parts<'_>) -> bool
+        ensures { MatchBool result (Takes (λ (n : ℕ). n ≤ path_limit) (λ (n : ℕ). words_line (decimal n)) (with_word_count self.old) tokens.entry self.new)
+            ((next : Part) → ¬ Takes (λ (n : ℕ). n ≤ path_limit) (λ (n : ℕ). words_line (decimal n)) (with_word_count self.old) tokens.entry next) }
+    {
+        let mut tokens = tokens;
+        if !tokens.take_word(b"words") {
+            return false;
+        }
+        let Some(n) = only_number(tokens, 4096) else {
+            return false;
+        };
+        self.place = words_place(n, self.words.len());
+        true
+    }
+
+    fn take_word(&mut self, alloc: Global, n: u64, tokens: Parts<'_>) -> Result<bool, AllocError>
+        ensures { IfOk result (λ taken. MatchBool taken (Takes (FitsWord self.old.front.header self.old.words) (word_line self.old.front.header.quiver) (with_word self.old n) tokens.entry self.new)
+            ((next : Part) → ¬ Takes (FitsWord self.old.front.header self.old.words) (word_line self.old.front.header.quiver) (with_word self.old n) tokens.entry next)) }
+    {
+        let header = self.front.header();
+        let Some(word) = read_word(alloc, header, &self.words, tokens)? else {
+            return Ok(false);
+        };
+        self.words.push(word)?;
+        self.place = words_place(n, self.words.len());
+        Ok(true)
+    }
+
+    fn take_step_count(&mut self, tokens: Parts<'_>) -> bool
+        ensures { MatchBool result (Takes IsCount steps_line (with_step_count self.old) tokens.entry self.new) ((next : Part) → ¬ Takes IsCount steps_line (with_step_count self.old) tokens.entry next) }
+    {
+        let mut tokens = tokens;
+        if !tokens.take_word(b"steps") {
+            return false;
+        }
+        let Some(n) = only_count(tokens) else {
+            return false;
+        };
+        self.place = steps_place(n, self.steps.len());
+        true
+    }
+
+    fn take_step(&mut self, n: u64, tokens: Parts<'_>) -> Result<bool, AllocError>
+        ensures { IfOk result (λ taken. MatchBool taken (Takes (FitsStep self.old.front.header (length self.old.steps)) (step_line self.old.front.header.quiver (length self.old.steps + 1)) (with_step self.old n) tokens.entry self.new)
+            ((next : Part) → ¬ Takes (FitsStep self.old.front.header (length self.old.steps)) (step_line self.old.front.header.quiver (length self.old.steps + 1)) (with_step self.old n) tokens.entry next)) }
+    {
+        let header = self.front.header();
+        let Some(step) = read_step(header, self.steps.len(), tokens) else {
+            return Ok(false);
+        };
+        self.steps.push(step)?;
+        self.place = steps_place(n, self.steps.len());
+        Ok(true)
+    }
+
+    /// Makes a record of the basis.
+    fn close_basis(&mut self, alloc: Global) -> Result<(), AllocError>
+        ensures { OnOk result (self.new ≡ claimed (record self.old { modules = []; maps = [] }) self.old.line (Said.Basis self.old.words self.old.steps self.old.rules)) }
+    {
+        let _modules = self.records.module_count();
+        let _maps = self.records.map_count();
+        let words = mem::replace(&mut self.words, Words::new(alloc));
+        let steps = mem::replace(&mut self.steps, Seq::new(alloc));
+        let rules = mem::replace(&mut self.rules, Seq::new(alloc));
+        let added = Record {
+            line: self.line,
+            modules: Seq::new(alloc),
+            maps: Seq::new(alloc),
+            claim: Claim::Basis {
+                words: words.into_paths(),
+                steps,
+                rules,
+            },
+        };
+        self.records.push(added)?;
+        self.place = Place::Between;
+        self.line = 0;
+        self.modules = Seq::new(alloc);
+        self.maps = Seq::new(alloc);
+        Ok(())
+    }
+
+    /// Where the rules are n, makes a record of the basis.
+    fn set_rules(&mut self, alloc: Global, n: u64) -> Result<(), AllocError>
+        ensures { OnOk result (self.new ≡ at_rules self.old n) }
+    {
+        if self.rules.len() as u64 == n {
+            self.close_basis(alloc)?;
+            return Ok(());
+        }
+        self.place = Place::Rules(n);
+        Ok(())
+    }
+
+    fn take_rule_count(&mut self, alloc: Global, tokens: Parts<'_>) -> Result<bool, AllocError>
+        ensures { IfOk result (λ taken. MatchBool taken (Takes IsCount rules_line (with_rule_count self.old) tokens.entry self.new) ((next : Part) → ¬ Takes IsCount rules_line (with_rule_count self.old) tokens.entry next)) }
+    {
+        let mut tokens = tokens;
+        if !tokens.take_word(b"rules") {
+            return Ok(false);
+        }
+        let Some(n) = only_count(tokens) else {
+            return Ok(false);
+        };
+        self.set_rules(alloc, n)?;
+        Ok(true)
+    }
+
+    fn take_rule(&mut self, alloc: Global, n: u64, tokens: Parts<'_>) -> Result<bool, AllocError>
+        ensures { IfOk result (λ taken. MatchBool taken (Takes (FitsRule self.old.front.header (length self.old.steps) (length self.old.rules)) (rule_line self.old.front.header.quiver) (with_rule self.old n) tokens.entry self.new)
+            ((next : Part) → ¬ Takes (FitsRule self.old.front.header (length self.old.steps) (length self.old.rules)) (rule_line self.old.front.header.quiver) (with_rule self.old n) tokens.entry next)) }
+    {
+        let header = self.front.header();
+        let Some(rule) = read_rule(alloc, header, self.steps.len(), self.rules.len(), tokens)?
+        else {
+            return Ok(false);
+        };
+        self.rules.push(rule)?;
+        self.set_rules(alloc, n)?;
+        Ok(true)
+    }
+}
+
+/// Whether the line begins with `claim` or `refused`.
+fn begins_body(line: &[u8]) -> bool
+    ensures { result ≡ lexed_begins (strict_tokens line.now) }
+{
+    let Some(tokens) = strict_tokens(line) else {
+        return false;
+    };
+    let mut tokens = tokens;
+    match tokens.next_part() {
+        Some(word) => word == b"claim".as_slice() || word == b"refused".as_slice(),
+        None => false,
+    }
+}
+
+/// Whether the line is to be one of the header's.
+fn is_header_line(place: Place, line: &[u8]) -> bool
+    ensures { result ≡ is_header_line place line.now }
+{
+    match place {
+        Place::Header => !begins_body(line),
+        _ => false,
+    }
+}
