@@ -5,3 +5,4 @@ pub mod Part
 pub mod Steps
 pub mod Texts
 pub mod Determined
+pub mod Filling

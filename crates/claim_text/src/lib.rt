@@ -2,6 +2,7 @@
 #![tactic(auto)]
 
 pub mod laws;
+mod items;
 mod objects;
 mod part;
 mod taking;

@@ -11,7 +11,7 @@ ghost use Rattle.claim_text.specs.Part.{here, count_of, name_of, rows_of, column
 ghost use Rattle.claim_text.specs.declared.part.Place.TheVariants.{Between as between};
 ghost use Rattle.header_text.specs.Reading.{Reads};
 ghost use Rattle.module_types.specs.Shapes.{HasShape};
-ghost use Rattle.claim_text.specs.Matrices.{filled};
+ghost use Rattle.claim_text.specs.Filling.{Filling, with_empties};
 ghost use Rattle.claim_text.specs.Steps.{Takes, FitsMatrix};
 
 use crate::part::{Owner, Part, Place};
@@ -36,21 +36,27 @@ fn dim_at(header: &Header, dims: &[u32], vertex: usize) -> u32
 
 impl Part {
     /// How many modules there are up to here; none where their number has no 32 bits.
+    #[tactic(auto, using(crate::proofs::ObjectReading::modules_counted))]
     pub(crate) fn module_count(&self) -> Option<u32>
         ensures { MatchOption result (2 ^ 32 ≤ length (modules_of (here self.now))) (λ n. n ≡ length (modules_of (here self.now))) }
     {
-        self.records
-            .module_count()
-            .checked_add(u32::try_from(self.modules.len()).ok()?)
+        let more = self.modules.len();
+        if more > u32::MAX as usize {
+            return None;
+        }
+        self.records.module_count().checked_add(more as u32)
     }
 
     /// How many maps there are up to here; none where their number has no 32 bits.
+    #[tactic(auto, using(crate::proofs::ObjectReading::maps_counted))]
     pub(crate) fn map_count(&self) -> Option<u32>
         ensures { MatchOption result (2 ^ 32 ≤ length (maps_of (here self.now))) (λ n. n ≡ length (maps_of (here self.now))) }
     {
-        self.records
-            .map_count()
-            .checked_add(u32::try_from(self.maps.len()).ok()?)
+        let more = self.maps.len();
+        if more > u32::MAX as usize {
+            return None;
+        }
+        self.records.map_count().checked_add(more as u32)
     }
 
     /// The dimensions of the module with this number; of none where there is no such module.
@@ -115,19 +121,31 @@ impl Part {
         }
     }
 
+    /// Adds the matrix that is next where it has no entries, and says whether it has none.
+    fn add_next(&mut self, alloc: Global, owner: Owner) -> Result<bool, AllocError>
+        requires { length self.old.matrices < count_of self.old.front.header owner }
+        ensures { IfOk result (λ added. MatchBool added (Filling owner self.old self.new (length self.old.matrices + 1) (count_of self.old.front.header owner)) (self.new ≡ with_empties self.old owner)) }
+    {
+        let i = self.matrices.len();
+        let rows = self.row_count(owner, i);
+        let columns = self.column_count(owner, i);
+        if rows != 0 && columns != 0 {
+            return Ok(false);
+        }
+        let empty = Matrix::zero(alloc, self.front.header().field, rows, columns)?;
+        self.matrices.push(empty)?;
+        Ok(true)
+    }
+
     /// Adds the matrices without entries that come next.
     fn add_empty(&mut self, alloc: Global, owner: Owner) -> Result<(), AllocError>
-        ensures { OnOk result (self.new ≡ record self.old { matrices = filled self.old.front.header.field (rows_of self.old.front.header self.old.dims (here self.old) owner)
-            (columns_of self.old.front.header self.old.dims (here self.old) owner) (count_of self.old.front.header owner) self.old.matrices }) }
+        ensures { OnOk result (self.new ≡ with_empties self.old owner) }
     {
-        for i in self.matrices.len()..self.matrix_count(owner) {
-            let rows = self.row_count(owner, i);
-            let columns = self.column_count(owner, i);
-            if rows != 0 && columns != 0 {
+        for _i in self.matrices.len()..self.matrix_count(owner) {
+            let added = self.add_next(alloc, owner)?;
+            if !added {
                 return Ok(());
             }
-            let empty = Matrix::zero(alloc, self.front.header().field, rows, columns)?;
-            self.matrices.push(empty)?;
         }
         Ok(())
     }
