@@ -6,3 +6,4 @@ pub mod Steps
 pub mod Texts
 pub mod Determined
 pub mod Filling
+pub mod Refusals

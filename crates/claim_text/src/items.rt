@@ -125,7 +125,7 @@ impl Part {
     }
 
     fn module_item(&self, alloc: Global, tokens: Parts<'_>) -> Result<Option<Item>, AllocError>
-        requires { slice_index_or tokens.entry 0 [] ≡ codes "module" }
+        requires { slice_index_or tokens 0 [] ≡ codes "module" }
         ensures { IfOk result (λ r. Reads (FitsItem self.now) (item_line self.now) tokens.entry r) }
     {
         let Some(head) = self.read_module_line(alloc, tokens)? else {
@@ -138,7 +138,7 @@ impl Part {
     }
 
     fn map_item(&self, tokens: Parts<'_>) -> Option<Item>
-        requires { slice_index_or tokens.entry 0 [] ≡ codes "map" }
+        requires { slice_index_or tokens 0 [] ≡ codes "map" }
         ensures { Reads (FitsItem self.now) (item_line self.now) tokens.entry result }
     {
         let Some((source, target)) = self.read_map_line(tokens) else {
@@ -148,7 +148,7 @@ impl Part {
     }
 
     fn claim_item(&self, alloc: Global, tokens: Parts<'_>) -> Result<Option<Item>, AllocError>
-        requires { slice_index_or tokens.entry 0 [] ≡ codes "claim" }
+        requires { slice_index_or tokens 0 [] ≡ codes "claim" }
         ensures { IfOk result (λ r. Reads (FitsItem self.now) (item_line self.now) tokens.entry r) }
     {
         let Some((line, head)) = self.read_claim_line(alloc, tokens)? else {
@@ -158,9 +158,9 @@ impl Part {
     }
 
     fn last_item(&self, alloc: Global, tokens: Parts<'_>) -> Result<Option<Item>, AllocError>
-        requires module { ¬ (slice_index_or tokens.entry 0 [] ≡ codes "module") }
-        requires map { ¬ (slice_index_or tokens.entry 0 [] ≡ codes "map") }
-        requires claim { ¬ (slice_index_or tokens.entry 0 [] ≡ codes "claim") }
+        requires module { ¬ (slice_index_or tokens 0 [] ≡ codes "module") }
+        requires map { ¬ (slice_index_or tokens 0 [] ≡ codes "map") }
+        requires claim { ¬ (slice_index_or tokens 0 [] ≡ codes "claim") }
         ensures { IfOk result (λ r. Reads (FitsItem self.now) (item_line self.now) tokens.entry r) }
     {
         let Some(end) = self.read_last_line(alloc, tokens)? else {
@@ -171,7 +171,7 @@ impl Part {
 
     /// Reads what stands between whole objects and claims.
     fn read_item(&self, alloc: Global, line: &[u8], tokens: Parts<'_>) -> Result<Option<Item>, AllocError>
-        requires { strict_tokens line.now ≡ Some tokens.entry }
+        requires { strict_tokens line.now ≡ Some tokens }
         ensures { IfOk result (λ r. Reads (FitsItem self.now) (item_line self.now) tokens.entry r) }
     {
         if begins_with(line, b"module") {
@@ -234,7 +234,7 @@ impl Part {
 
     /// Reads what stands between whole objects and claims, if it may follow.
     pub(crate) fn take_item(&mut self, alloc: Global, line: &[u8], tokens: Parts<'_>) -> Result<bool, AllocError>
-        requires { strict_tokens line.now ≡ Some tokens.entry }
+        requires { strict_tokens line.now ≡ Some tokens }
         ensures { IfOk result (λ taken. MatchBool taken (Takes (FitsItem self.old) (item_line self.old) (with_item self.old) tokens.entry self.new)
             ((next : Part) → ¬ Takes (FitsItem self.old) (item_line self.old) (with_item self.old) tokens.entry next)) }
     {

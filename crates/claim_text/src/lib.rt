@@ -5,6 +5,8 @@ pub mod laws;
 mod items;
 mod objects;
 mod part;
+mod reader;
 mod taking;
 
 pub use part::{Item, Owner, Part, Place};
+pub use reader::{ReadTextError, read};

@@ -172,6 +172,68 @@ impl Part {
         self.set_rules(alloc, n)?;
         Ok(true)
     }
+
+    /// The first line behind the header.
+    fn take_first(&mut self, alloc: Global, line: &[u8], tokens: Parts<'_>) -> Result<bool, AllocError>
+        requires { strict_tokens line.now ≡ Some tokens }
+        ensures { IfOk result (λ taken. MatchBool taken (TakesFirst self.old tokens.entry self.new) ((next : Part) → ¬ TakesFirst self.old tokens.entry next)) }
+    {
+        if !self.front.may_end() {
+            return Ok(false);
+        }
+        let taken = self.take_item(alloc, line, tokens)?;
+        Ok(taken)
+    }
+
+    /// Reads one line more, given by its tokens, if it may follow.
+    fn take_tokens(&mut self, alloc: Global, line: &[u8], tokens: Parts<'_>) -> Result<bool, AllocError>
+        requires { strict_tokens line.now ≡ Some tokens }
+        ensures { IfOk result (λ taken. MatchBool taken (TokenStep self.old.place self.old tokens.entry self.new) ((next : Part) → ¬ TokenStep self.old.place self.old tokens.entry next)) }
+    {
+        match self.place {
+            Place::Title => Ok(self.take_title(tokens)),
+            Place::Header => self.take_first(alloc, line, tokens),
+            Place::WordCount => Ok(self.take_word_count(tokens)),
+            Place::Words(n) => self.take_word(alloc, n, tokens),
+            Place::StepCount => Ok(self.take_step_count(tokens)),
+            Place::Steps(n) => self.take_step(n, tokens),
+            Place::RuleCount => self.take_rule_count(alloc, tokens),
+            Place::Rules(n) => self.take_rule(alloc, n, tokens),
+            Place::Between => self.take_item(alloc, line, tokens),
+            Place::Matrices(owner) => self.take_matrix(alloc, owner, tokens),
+            Place::Ended => Ok(false),
+        }
+    }
+
+    fn take_lexed(&mut self, alloc: Global, line: &[u8]) -> Result<bool, AllocError>
+        ensures { IfOk result (λ taken. MatchBool taken (LexedStep self.old line.now self.new) ((next : Part) → ¬ LexedStep self.old line.now next)) }
+    {
+        let Some(tokens) = strict_tokens(line) else {
+            return Ok(false);
+        };
+        self.take_tokens(alloc, line, tokens)
+    }
+
+    fn take_front(&mut self, line: &[u8]) -> Result<bool, AllocError>
+        ensures { IfOk result (λ taken. MatchBool taken (FrontStep self.old line.now self.new) ((next : Part) → ¬ FrontStep self.old line.now next)) }
+    {
+        let taken = self.front.take_line(line)?;
+        if !taken {
+            return Ok(false);
+        }
+        Ok(true)
+    }
+
+    /// Reads one line more, if it may follow.
+    pub(crate) fn take(&mut self, alloc: Global, line: &[u8]) -> Result<bool, AllocError>
+        ensures { IfOk result (λ taken. MatchBool taken (Step self.old line.now self.new) ((next : Part) → ¬ Step self.old line.now next)) }
+    {
+        if is_header_line(self.place, line) {
+            self.take_front(line)
+        } else {
+            self.take_lexed(alloc, line)
+        }
+    }
 }
 
 /// Whether the line begins with `claim` or `refused`.
