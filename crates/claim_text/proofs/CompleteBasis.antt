@@ -1,8 +1,8 @@
 -- The lines of a basis are read.
-use Rattle.std.proofs.Common.{◌≡◌, ◌≢◌, ℕ, ◌+◌, ◌<◌, ◌^◌, true, false, List, [], ◌∷◌, ◌++◌, map, length, get_or, cond, codes, decimal, inl, inr, refl, sym, ap, ◌∙◌, subst, arith, append_assoc, append-nil, lit<}
+use Rattle.std.proofs.Common.{◌≡◌, ◌≢◌, ℕ, ◌+◌, ◌<◌, ◌^◌, true, List, [], ◌∷◌, ◌++◌, map, length, get_or, cond, codes, decimal, inl, inr, refl, sym, ap, ◌∙◌, subst, arith, append_assoc, append-nil, lit<}
 use Rattle.std.specs.Prelude.{All, AllPairs, min}
 use Rattle.std.proofs.lemmas.Bool.Decides.{eqb_tells}
-use Rattle.std.proofs.lemmas.List.{map-append, length-append, get_or_append_left}
+use Rattle.std.proofs.lemmas.List.{length-append, get_or_append_left}
 use Rattle.std.proofs.Math.Seq.{get_or-append_seam}
 use Rattle.std.proofs.Math.Nat.{min-eq_left}
 use Rattle.quiver_paths.specs.declared.Path.{Path}
@@ -15,25 +15,20 @@ use Rattle.path_algebra.specs.Words.{IsShortPath}
 use Rattle.path_algebra.specs.Derivations.{NamesEarlier}
 use Rattle.path_algebra.specs.BasisClauses.{HasFactor}
 use Rattle.text_lines.proofs.Digits.{numeral-decimal}
-use Rattle.text_lines.specs.Strict.{strict_line}
-use Rattle.text_lines.specs.Reading.{Reads}
-use Rattle.text_lines.proofs.Readings.{Reads-append}
 use Rattle.header_text.specs.Named.{IsNamed}
 use Rattle.header_text.proofs.WholeLemmas.{IsNamed-allowed}
 use Rattle.report_types.specs.declared.reports.End.TheVariants.{Done}
 use Rattle.report_types.specs.declared.claims.Claim.TheVariants as claim
-use Rattle.report_types.specs.declared.claims.Record.{Record}
 use Rattle.report_types.specs.BasisBlocks.{AreWords, AreWrittenSteps, IsWrittenRule, AreWrittenRules, IsBasisBlock}
 use Rattle.claim_lines.specs.Spelling.{words_line, word_line, steps_line, step_line, rules_line, rule_line}
 use Rattle.claim_lines.specs.Items.{IsCount, counted, FitsWord, FitsStep, FitsRule}
 use Rattle.claim_lines.proofs.FittingLines.{one_fitting_word, one_fitting_step, one_fitting_rule}
-use Rattle.claim_lines.proofs.Clear.{space, words_clear, word_clear, steps_clear, step_clear, rules_clear, rule_clear}
+use Rattle.claim_lines.proofs.Clear.{words_clear, word_clear, steps_clear, step_clear, rules_clear, rule_clear}
 use Rattle.claim_text.specs.declared.part.Place.{Place}
 use Rattle.claim_text.specs.declared.part.Place.TheVariants as place
 use Rattle.claim_text.specs.declared.part.Part.{Part}
 use Rattle.claim_text.specs.Spelling.{step_lines, block_lines}
 use Rattle.claim_text.specs.Part.{words_place, steps_place, with_word_count, with_word, with_step_count, with_step, at_rules, with_rule_count, with_rule}
-use Rattle.claim_text.specs.Steps.{Step}
 use Rattle.claim_text.proofs.Runs.{Run, run_none, run_line, run_append, taken}
 use Rattle.claim_text.proofs.CompleteObjects.{between}
 use Rattle.claim_text.proofs.TakenLines.{takes_number}
@@ -101,7 +96,7 @@ module _ (h : Header) (ok : IsAllowed h) (line : ℕ) where
       let here : at (place.Words n) done [] [] ≡ at (words_place n (length done)) done [] [] = ap (λ s. at s done [] []) (sym (open_words n (length done) (omega (arith, e)))) in
       let end = at place.StepCount (done ++ w ∷ todo) [] [] in
       let rest : Run q (map (word_line h.quiver) todo) end = subst (λ ws. Run q (map (word_line h.quiver) todo) (at place.StepCount ws [] [])) (shift done w todo)
-          (subst (λ k. Run (at (words_place n k) (done ++ w ∷ []) [] []) (map (word_line h.quiver) todo) (at place.StepCount ((done ++ w ∷ []) ++ todo) [] [])) long more) in
+      (subst (λ k. Run (at (words_place n k) (done ++ w ∷ []) [] []) (map (word_line h.quiver) todo) (at place.StepCount ((done ++ w ∷ []) ++ todo) [] [])) long more) in
       subst (λ r. Run r (map (word_line h.quiver) (w ∷ todo)) end) here
       (run_line p q end (word_line h.quiver w) (map (word_line h.quiver) todo) (λ c out o. word_clear c out h named w) refl (taken (FitsWord h done) (word_line h.quiver) (with_word p n) w fits (one_fitting_word h named done)) rest)
 
@@ -119,7 +114,7 @@ module _ (h : Header) (ok : IsAllowed h) (line : ℕ) where
       let here : at (place.Steps n) words done [] ≡ at (steps_place n k) words done [] = ap (λ s. at s words done []) (sym (open_steps n k (omega (arith, e)))) in
       let end = at place.RuleCount words (done ++ x ∷ todo) [] in
       let rest : Run q (step_lines h.quiver (k + 1 + 1) todo) end = subst (λ ss. Run q (step_lines h.quiver (k + 1 + 1) todo) (at place.RuleCount words ss [])) (shift done x todo)
-          (subst (λ m. Run (at (steps_place n m) words (done ++ x ∷ []) []) (step_lines h.quiver (m + 1) todo) (at place.RuleCount words ((done ++ x ∷ []) ++ todo) [])) long more) in
+      (subst (λ m. Run (at (steps_place n m) words (done ++ x ∷ []) []) (step_lines h.quiver (m + 1) todo) (at place.RuleCount words ((done ++ x ∷ []) ++ todo) [])) long more) in
       subst (λ r. Run r (step_lines h.quiver (k + 1) (x ∷ todo)) end) here
       (run_line p q end l (step_lines h.quiver (k + 1 + 1) todo) (λ c out o. step_clear c out h named few_relations k x fits) refl (taken (FitsStep h k) (step_line h.quiver (k + 1)) (with_step p n) x fits (one_fitting_step h named few_relations k (k + 1))) rest)
 

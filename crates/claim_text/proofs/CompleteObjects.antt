@@ -1,18 +1,15 @@
 -- The lines of modules and maps are read.
-use Rattle.std.proofs.Common.{◌≡◌, ◌≢◌, ℕ, zero, suc, ◌+◌, ◌*◌, ◌<◌, ◌≤◌, ◌^◌, Bool, true, false, List, [], ◌∷◌, ◌++◌, map, length, get_or, cond, inl, inr, refl, sym, ap, ◌∙◌, subst, arith, append_assoc, append-nil, lit<}
+use Rattle.std.proofs.Common.{◌≡◌, ◌≢◌, ℕ, ◌+◌, ◌*◌, ◌<◌, ◌^◌, true, List, [], ◌∷◌, ◌++◌, length, cond, inl, inr, refl, sym, ap, ◌∙◌, subst, arith, append_assoc, append-nil, lit<}
 use Rattle.std.specs.Prelude.{All}
 use Rattle.std.proofs.lemmas.Bool.Decides.{eqb_tells}
 use Rattle.std.proofs.lemmas.Bool.{cases_eq}
-use Rattle.std.proofs.lemmas.List.{map-append, length-append}
 use Rattle.std.proofs.lemmas.List.Elements.{All-head, All-tail}
 use Rattle.std.proofs.Math.Seq.{get_or-append_seam}
 use Rattle.quiver_paths.proofs.ListLemmas.{length-pushed}
-use Rattle.quiver_paths.specs.Quiver.{vertex_count, arrow_count}
+use Rattle.quiver_paths.specs.Quiver.{vertex_count}
 use Rattle.fp_linear.specs.Matrix.{PlainMatrix}
 use Rattle.path_algebra.specs.declared.Header.{Header}
 use Rattle.path_algebra.specs.Allowed.{IsAllowed}
-use Rattle.text_lines.specs.Reading.{Reads}
-use Rattle.text_lines.proofs.Readings.{Reads-append}
 use Rattle.header_text.specs.Named.{IsNamed}
 use Rattle.header_text.specs.Spelling.{arrow_name, vertex_name}
 use Rattle.header_text.proofs.WholeLemmas.{IsNamed-allowed}
@@ -21,24 +18,21 @@ use Rattle.module_types.specs.declared.Side.TheVariants.{Right, Left}
 use Rattle.module_types.specs.declared.Module.{Module}
 use Rattle.module_types.specs.declared.Map.{Map}
 use Rattle.module_types.specs.Algebras.{algebra_at}
-use Rattle.module_types.specs.Shapes.{HasShape, AreMatrices, IsModule, dimension, most_dimension}
+use Rattle.module_types.specs.Shapes.{HasShape, AreMatrices, IsModule}
 use Rattle.object_lines.specs.Spelling.{module_line, map_line, at_line, at_lines}
 use Rattle.report_types.specs.declared.claims.Record.{Record}
 use Rattle.report_types.specs.declared.reports.End.TheVariants.{Done}
-use Rattle.report_types.specs.Numbers.{modules_of, maps_of, module_of, numbered, no_module}
+use Rattle.report_types.specs.Numbers.{modules_of, maps_of}
 use Rattle.report_types.specs.Lawful.{IsModuleBlock, IsMapBlock}
-use Rattle.claim_lines.proofs.Clear.{ClearLine, space}
 use Rattle.claim_text.specs.declared.part.Owner.{Owner}
 use Rattle.claim_text.specs.declared.part.Owner.TheVariants as owner
-use Rattle.claim_text.specs.declared.part.Place.{Place}
 use Rattle.claim_text.specs.declared.part.Place.TheVariants as place
 use Rattle.claim_text.specs.declared.part.Part.{Part}
-use Rattle.claim_text.specs.declared.part.Item.{Item}
 use Rattle.claim_text.specs.declared.part.Item.TheVariants as item
-use Rattle.claim_text.specs.Matrices.{empty_matrix, filled}
+use Rattle.claim_text.specs.Matrices.{filled}
 use Rattle.claim_text.specs.Spelling.{at_arrows, at_vertices, module_lines, map_lines}
 use Rattle.claim_text.specs.Part.{unclaimed, here, counts_of, count_of, name_of, rows_of, columns_of, closed, at_matrices, fill, with_matrix, with_item}
-use Rattle.claim_text.specs.Steps.{Takes, TokenStep, is_header_line, StepBy, Step, FitsItem, item_line, FitsMatrix}
+use Rattle.claim_text.specs.Steps.{FitsItem, item_line, FitsMatrix}
 use Rattle.claim_text.proofs.Runs.{Run, run_none, run_line, run_append, taken}
 use Rattle.claim_text.proofs.MatrixBlocks.{only_empty, filled_empty, filled_entry, filled_whole, at_lines-empty, at_lines-entry}
 use Rattle.claim_text.proofs.ObjectLists.{map_block_same, modules_push, modules_count, maps_count}

@@ -1,5 +1,5 @@
 -- The lines of a report are read, and lead to that report.
-use Rattle.std.proofs.Common.{◌≡◌, ◌≢◌, ℕ, zero, suc, ◌+◌, ◌<◌, ◌≤◌, ◌^◌, false, true, List, [], ◌∷◌, ◌++◌, map, length, cond, codes, refl, sym, ap, ◌∙◌, subst, arith, append_assoc, append-nil, lit<}
+use Rattle.std.proofs.Common.{◌≡◌, ℕ, ◌+◌, ◌<◌, ◌^◌, false, true, List, [], ◌∷◌, ◌++◌, map, length, cond, refl, sym, ap, ◌∙◌, subst, arith, append_assoc, append-nil, lit<}
 use Rattle.std.specs.Prelude.{All, take}
 use Rattle.std.proofs.lemmas.List.{length-append}
 use Rattle.std.proofs.lemmas.List.Elements.{All-head, All-tail}
@@ -14,7 +14,7 @@ use Rattle.text_lines.proofs.StrictLaws.{strict_tokens-strict_line}
 use Rattle.header_text.specs.declared.forms.Form.{Form}
 use Rattle.header_text.specs.declared.forms.Form.TheVariants.{Field, Vertex, Arrow as ArrowForm, Bound, Relation as RelationForm}
 use Rattle.header_text.specs.Named.{IsNamed}
-use Rattle.header_text.specs.Spelling.{header_lines, text_of}
+use Rattle.header_text.specs.Spelling.{header_lines}
 use Rattle.header_text.specs.Part.{Part as HeaderPart, start as header_start, IsStart, tokens_of, Step as HeaderStep}
 use Rattle.header_text.proofs.WholeLemmas.{reads_header, IsNamed-allowed, header_lacks, lines_of_text}
 use Rattle.module_types.specs.declared.Module.{Module}
@@ -30,29 +30,27 @@ use Rattle.report_types.specs.Limits.{IsLine}
 use Rattle.report_types.specs.Numbers.{modules_of, maps_of, record_of, claim_of, NamesModule, NamesMap}
 use Rattle.report_types.specs.NamedClaims.{IsLocalClaim}
 use Rattle.report_types.specs.ClaimBlocks.{IsClaimBlock, IsPart}
-use Rattle.report_types.specs.Ends.{IsEmptyEnd, IsFullEnd, IsEnd}
+use Rattle.report_types.specs.Ends.{IsEmptyEnd, IsFullEnd}
 use Rattle.report_types.specs.Lawful.{IsRecord, HasItsPlace, MayBeRecord, IsReport}
 use Rattle.claim_lines.specs.declared.heads.Head.{Head}
 use Rattle.claim_lines.specs.declared.heads.Head.TheVariants as head
 use Rattle.claim_lines.specs.Spelling.{title_line, claim_line, end_line}
-use Rattle.claim_lines.specs.Items.{FitsClaim, FitsEnd, ArePartNumbers}
+use Rattle.claim_lines.specs.Items.{FitsClaim, ArePartNumbers}
 use Rattle.object_lines.proofs.ClearLines.{space_stands}
-use Rattle.claim_lines.proofs.Clear.{Outside, title_clear, space}
-use Rattle.claim_text.specs.declared.part.Place.{Place}
+use Rattle.claim_lines.proofs.Clear.{title_clear, space}
 use Rattle.claim_text.specs.declared.part.Place.TheVariants as place
 use Rattle.claim_text.specs.declared.part.Part.{Part}
-use Rattle.claim_text.specs.declared.part.Item.{Item}
 use Rattle.claim_text.specs.declared.part.Item.TheVariants as item
-use Rattle.claim_text.specs.Spelling.{block_lines, module_lines, map_lines, head_of, claim_block, record_lines, records_lines, report_lines, report_text}
-use Rattle.claim_text.specs.Part.{start, report_of, unclaimed, here, counts_of, claimed, with_head, with_item}
-use Rattle.claim_text.specs.Steps.{Takes, TokenStep, begins_body, lexed_begins, is_header_line, StepBy, Step, FitsKind, FitsHead, FitsItem, item_line}
+use Rattle.claim_text.specs.Spelling.{block_lines, module_lines, map_lines, head_of, claim_block, record_lines, records_lines, report_lines}
+use Rattle.claim_text.specs.Part.{start, report_of, unclaimed, counts_of, with_head, with_item}
+use Rattle.claim_text.specs.Steps.{TokenStep, begins_body, lexed_begins, is_header_line, StepBy, Step, FitsKind, FitsHead, FitsItem, item_line}
 use Rattle.claim_text.specs.Judged.{IsJudgedHead, IsJudged}
 use Rattle.claim_text.specs.Texts.{IsTextOf}
 use Rattle.claim_text.proofs.Runs.{Run, run_none, run_line, run_append, taken}
-use Rattle.claim_text.proofs.ObjectLists.{same_modules, same_maps, modules_push, maps_push, modules_count, maps_count, claim_earlier, record_behind, modules_append, maps_append}
+use Rattle.claim_text.proofs.ObjectLists.{same_modules, same_maps, modules_push, modules_count, maps_count, claim_earlier, record_behind, modules_append, maps_append}
 use Rattle.claim_text.proofs.OtherLines.{one_item, item_clear}
 use Rattle.claim_text.proofs.CompleteObjects.{between, modules_read, maps_read}
-use Rattle.claim_text.proofs.CompleteBasis.{at, with_basis, basis_read}
+use Rattle.claim_text.proofs.CompleteBasis.{with_basis, basis_read}
 
 -- ---- the header
 
@@ -164,8 +162,10 @@ module _ (h : Header) (ok : IsAllowed h) where
           room = room;
           is_line = is;
           numbers = (
-            module_number line c a block.whole.is_module, module_number line c s block.sum.is_module,
-            map_number line c f block.whole.is_map, map_number line c g block.sum.is_map,
+            module_number line c a block.whole.is_module,
+            module_number line c s block.sum.is_module,
+            map_number line c f block.whole.is_map,
+            map_number line c g block.sum.is_map,
             part_numbers line c parts block.each,
           );
         } read (some, part_kinds line c parts block.each))
@@ -208,7 +208,7 @@ module _ (h : Header) (ok : IsAllowed h) where
       ap (λ l. length (maps_of l)) (sym again) ∙ (ap length (maps_append (done ++ r ∷ []) rest) ∙ length-append (maps_of (done ++ r ∷ [])) (maps_of rest)) in
       let one = record_read done r some (omega (arith, few, all_long, long)) (omega (arith, few_modules, all_modules)) (omega (arith, few_maps, all_maps)) (record_behind h done r rest each) (All-head (λ (x : Record). IsJudged x.claim) r rest read) in
       let more = records_read (done ++ r ∷ []) rest (omega (arith, long)) (subst (λ l. length l < 2 ^ 32) (sym again) few) (subst (λ l. length (modules_of l) < 2 ^ 32) (sym again) few_modules)
-          (subst (λ l. length (maps_of l) < 2 ^ 32) (sym again) few_maps) (subst (λ l. (k : ℕ) → MayBeRecord h (take k l) (record_of l k)) (sym again) each) (All-tail (λ (x : Record). IsJudged x.claim) r rest read) in
+      (subst (λ l. length (maps_of l) < 2 ^ 32) (sym again) few_maps) (subst (λ l. (k : ℕ) → MayBeRecord h (take k l) (record_of l k)) (sym again) each) (All-tail (λ (x : Record). IsJudged x.claim) r rest read) in
       let M = length (modules_of done) in
       let F = length (maps_of done) in
       run_append (between h ok done [] []) (between h ok (done ++ r ∷ []) [] []) (between h ok (done ++ r ∷ rest) [] []) (record_lines h M F (length done) r)

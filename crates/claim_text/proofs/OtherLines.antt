@@ -1,7 +1,7 @@
 -- The lines of what may follow: each is spelled once, it is decided whether tokens spell one, and no token has a space or a line feed.
-use Rattle.std.specs.Prelude.{nat_eq, All}
+use Rattle.std.specs.Prelude.{nat_eq}
 use Rattle.std.specs.Cmp.Lexicographic.{pointwise}
-use Rattle.std.proofs.Common.{◌≡◌, ◌≢◌, ℕ, zero, suc, ◌+◌, ◌*◌, ◌<◌, ◌^◌, true, false, List, [], ◌∷◌, length, get_or, codes, inl, inr, refl, sym, ap, ◌∙◌, subst, true≢false, arith, lit<}
+use Rattle.std.proofs.Common.{◌≡◌, ◌≢◌, ℕ, ◌+◌, ◌*◌, ◌<◌, ◌^◌, true, false, List, [], ◌∷◌, length, get_or, codes, inl, inr, refl, sym, ap, ◌∙◌, subst, true≢false, arith, lit<}
 use Rattle.std.proofs.lemmas.Bool.{cases_eq}
 use Rattle.fp_linear.specs.Matrix.{PlainMatrix}
 use Rattle.quiver_paths.specs.declared.Quiver.{Quiver}
@@ -12,7 +12,7 @@ use Rattle.header_text.proofs.Clean.{arrow_name_lacks, vertex_name_lacks}
 use Rattle.module_types.specs.Shapes.{HasShape}
 use Rattle.object_lines.specs.declared.objects.ModuleHead.{ModuleHead}
 use Rattle.object_lines.specs.Spelling.{map_line, at_line}
-use Rattle.object_lines.specs.Items.{FitsModule as ModuleFits, head_line, FitsMap as MapFits}
+use Rattle.object_lines.specs.Items.{head_line}
 use Rattle.object_lines.proofs.OneLine.{module_one, map_one, at_one}
 use Rattle.object_lines.proofs.DecidedLines.{module_decided, map_decided, at_decided}
 use Rattle.object_lines.proofs.ClearLines.{StandsOutside, at_clear, module_clear, map_clear}
@@ -27,7 +27,7 @@ use Rattle.deciding.proofs.Deciding.{Decided, both, three, like, fails, below, o
 use Rattle.claim_lines.specs.declared.heads.Head.{Head}
 use Rattle.claim_lines.specs.declared.heads.Head.TheVariants as head
 use Rattle.claim_lines.specs.Spelling.{claim_line, end_line}
-use Rattle.claim_lines.specs.Items.{FitsClaim, FitsEnd}
+use Rattle.claim_lines.specs.Items.{FitsClaim}
 use Rattle.claim_lines.proofs.Clear.{Outside, ClearLine}
 use Rattle.claim_lines.proofs.ClearClaims.{claim_clear}
 use Rattle.claim_lines.proofs.ClearEnds.{end_clear}
@@ -40,7 +40,7 @@ use Rattle.claim_text.specs.declared.part.Item.{Item}
 use Rattle.claim_text.specs.declared.part.Item.TheVariants as item
 use Rattle.claim_text.specs.Judged.{IsJudgedHead}
 use Rattle.claim_text.specs.Part.{here, counts_of, name_of, rows_of, columns_of}
-use Rattle.claim_text.specs.Steps.{FitsModule, FitsMap, FitsBasis, FitsKind, FitsHead, FitsLast, FitsItem, item_line, FitsMatrix}
+use Rattle.claim_text.specs.Steps.{FitsModule, FitsMap, FitsKind, FitsHead, FitsLast, FitsItem, item_line, FitsMatrix}
 
 wide : (n : ℕ) → n < 2 ^ 32 → n < 2 ^ 64
 wide n small = let big : 2 ^ 32 < 2 ^ 64 = lit< tt in omega arith

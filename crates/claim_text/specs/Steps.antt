@@ -3,7 +3,6 @@ use Rattle.std.specs.Prelude.{ℕ, ◌≡◌, ◌≤◌, ◌<◌, ◌^◌, ◌+�
 use Rattle.std.specs.Cmp.Lexicographic.{pointwise}
 use Rattle.std.specs.declared.option.Option.{Option}
 use Rattle.fp_linear.specs.Matrix.{PlainMatrix}
-use Rattle.path_algebra.specs.declared.Header.{Header}
 use Rattle.path_algebra.specs.Derivations.{IsNumber}
 use Rattle.text_lines.specs.Strict.{strict_tokens}
 use Rattle.header_text.specs.Part.{Part as HeaderPart, Step as HeaderStep, MayEnd as HeaderMayEnd}

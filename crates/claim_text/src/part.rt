@@ -1,8 +1,8 @@
 //! What has been read of a report.
 
 use claim_lines::{Head, Words};
-use header_text::HeaderReader;
 use fp_linear::Matrix;
+use header_text::HeaderReader;
 use module_types::{Map, Module, Side};
 use path_algebra::{Rule, Step};
 use report_types::{End, Records};
