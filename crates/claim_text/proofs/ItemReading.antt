@@ -1,8 +1,9 @@
 -- What stands between whole objects and claims, by its first word.
-use Rattle.std.specs.Prelude.{nat_eq}
+use Rattle.std.specs.Prelude.{nat_eq, Bool, MatchBool}
 use Rattle.std.specs.Cmp.Lexicographic.{pointwise}
 use Rattle.std.proofs.Common.{◌≡◌, ◌≢◌, ℕ, ◌+◌, ◌<◌, ◌≤◌, ◌^◌, true, false, List, [], ◌∷◌, length, get_or, codes, Some, None, refl, sym, ap, ◌∙◌, subst, true≢false, arith, inl, inr}
 use Rattle.path_algebra.specs.declared.Header.{Header}
+use Rattle.header_text.specs.Part.{MayEnd as HeaderMayEnd}
 use Rattle.header_text.specs.Reading.{Reads}
 use Rattle.object_lines.specs.declared.objects.ModuleHead.{ModuleHead}
 use Rattle.object_lines.specs.Items.{FitsModule as ModuleFits, FitsMap as MapFits, head_line}
@@ -19,8 +20,8 @@ use Rattle.claim_text.specs.declared.part.Part.{Part}
 use Rattle.claim_text.specs.declared.part.Item.{Item}
 use Rattle.claim_text.specs.declared.part.Item.TheVariants as item
 use Rattle.claim_text.specs.Judged.{IsJudgedHead}
-use Rattle.claim_text.specs.Part.{counts_of}
-use Rattle.claim_text.specs.Steps.{FitsItem, item_line, FitsModule, FitsMap, FitsHead, FitsKind, FitsLast}
+use Rattle.claim_text.specs.Part.{counts_of, with_item}
+use Rattle.claim_text.specs.Steps.{Takes, TakesFirst, FitsItem, item_line, FitsModule, FitsMap, FitsHead, FitsKind, FitsLast}
 
 -- different words
 other : (a b : List ℕ) (ts us : List (List ℕ)) → pointwise nat_eq a a ≡ true → pointwise nat_eq a b ≡ false → get_or ts 0 [] ≡ a → get_or us 0 [] ≡ b → ts ≡ us → ⊥
@@ -81,3 +82,10 @@ judged_basis (head.Ext n a b count c) is = absurd is
 judged_basis (head.Local m c) is = absurd is
 judged_basis (head.Translate which n a c) is = absurd is
 judged_basis (head.AlmostSplit n e a f g c l) is = absurd is
+
+-- the first line behind a header that may end
+pub first_taken : (p : Part) (ts : List (List ℕ)) (next : Part) (b : Bool) → HeaderMayEnd p.front
+    → MatchBool b (Takes (FitsItem p) (item_line p) (with_item p) ts next) ((n : Part) → Takes (FitsItem p) (item_line p) (with_item p) ts n → ⊥)
+    → MatchBool b (TakesFirst p ts next) ((n : Part) → TakesFirst p ts n → ⊥)
+first_taken p ts next true ends t = record { ends = ends; first = t }
+first_taken p ts next false ends none = λ n t. none n t.first

@@ -85,7 +85,7 @@ fn report_of(part: Part) -> Report
 {
     Report {
         header: part.front.into_header(),
-        records: part.records.into_list(),
+        records: part.records,
         end: part.end,
     }
 }
