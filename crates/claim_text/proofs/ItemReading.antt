@@ -1,23 +1,19 @@
 -- What stands between whole objects and claims, by its first word.
 use Rattle.std.specs.Prelude.{nat_eq, Bool, MatchBool}
 use Rattle.std.specs.Cmp.Lexicographic.{pointwise}
-use Rattle.std.proofs.Common.{◌≡◌, ◌≢◌, ℕ, ◌+◌, ◌<◌, ◌≤◌, ◌^◌, true, false, List, [], ◌∷◌, length, get_or, codes, Some, None, refl, sym, ap, ◌∙◌, subst, true≢false, arith, inl, inr}
-use Rattle.path_algebra.specs.declared.Header.{Header}
+use Rattle.std.proofs.Common.{◌≡◌, ℕ, ◌+◌, ◌<◌, ◌^◌, true, false, List, [], length, get_or, codes, None, refl, sym, ap, ◌∙◌, subst, true≢false}
 use Rattle.header_text.specs.Part.{MayEnd as HeaderMayEnd}
 use Rattle.header_text.specs.Reading.{Reads}
 use Rattle.object_lines.specs.declared.objects.ModuleHead.{ModuleHead}
-use Rattle.object_lines.specs.Items.{FitsModule as ModuleFits, FitsMap as MapFits, head_line}
+use Rattle.object_lines.specs.Items.{head_line}
 use Rattle.object_lines.specs.Spelling.{map_line}
-use Rattle.report_types.specs.declared.reports.End.{End}
 use Rattle.report_types.specs.declared.reports.End.TheVariants.{Done, Refused}
-use Rattle.claim_lines.specs.declared.heads.Counts.{Counts}
 use Rattle.claim_lines.specs.declared.heads.Head.{Head}
 use Rattle.claim_lines.specs.declared.heads.Head.TheVariants as head
 use Rattle.claim_lines.specs.Spelling.{claim_line, end_line}
-use Rattle.claim_lines.specs.Items.{FitsClaim, FitsEnd}
+use Rattle.claim_lines.specs.Items.{FitsClaim}
 use Rattle.claim_lines.proofs.DecidedClaims.{one_claim}
 use Rattle.claim_text.specs.declared.part.Part.{Part}
-use Rattle.claim_text.specs.declared.part.Item.{Item}
 use Rattle.claim_text.specs.declared.part.Item.TheVariants as item
 use Rattle.claim_text.specs.Judged.{IsJudgedHead}
 use Rattle.claim_text.specs.Part.{counts_of, with_item}
@@ -63,9 +59,9 @@ module _ (p : Part) (ts : List (List ℕ)) where
       → Reads (λ (y : ℕ × Head). FitsHead p y.0 y.1) (λ (y : ℕ × Head). claim_line (length p.records + 1) y.0 y.1) ts None
   no_other_claim earlier modules maps line x em en ee m n fits e bad y other_fits f =
       let here : FitsClaim (length p.records) (counts_of p) (line, x) =
-          subst (λ k. FitsClaim k (counts_of p) (line, x)) ee (subst (λ k. FitsClaim earlier record { modules = k; maps = (counts_of p).maps } (line, x)) em (subst (λ k. FitsClaim earlier record { modules = modules; maps = k } (line, x)) en fits)) in
+      subst (λ k. FitsClaim k (counts_of p) (line, x)) ee (subst (λ k. FitsClaim earlier record { modules = k; maps = (counts_of p).maps } (line, x)) em (subst (λ k. FitsClaim earlier record { modules = modules; maps = k } (line, x)) en fits)) in
       let same : y ≡ (line, x) = one_claim (length p.records) (counts_of p) other_fits.few_modules other_fits.few_maps (length p.records + 1) y (line, x) other_fits.claim here
-          (sym f ∙ (e ∙ ap (λ k. claim_line (k + 1) line x) ee)) in
+      (sym f ∙ (e ∙ ap (λ k. claim_line (k + 1) line x) ee)) in
       bad (subst (λ (z : ℕ × Head). IsJudgedHead z.1 × FitsKind p z.1) same (other_fits.judged, other_fits.kind))
 
 pub judged_basis : (x : Head) → IsJudgedHead x → x ≡ head.Basis

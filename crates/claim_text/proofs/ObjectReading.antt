@@ -1,9 +1,9 @@
 -- The objects of a report that is being read: by number, and the sizes of their matrices.
-use Rattle.std.proofs.Common.{◌≡◌, ◌≢◌, ℕ, zero, suc, ◌+◌, ◌*◌, ◌-◌, ◌<◌, ◌≤◌, true, false, List, [], ◌∷◌, ◌++◌, length, get_or, cond, inl, inr, refl, sym, ap, ◌∙◌, subst, arith, append_assoc, append-nil, ltb, lt-ltb}
+use Rattle.std.proofs.Common.{◌≡◌, ◌≢◌, ℕ, zero, suc, ◌+◌, ◌*◌, ◌-◌, ◌<◌, ◌≤◌, List, [], ◌∷◌, ◌++◌, length, get_or, cond, inl, inr, refl, sym, ap, ◌∙◌, subst, arith, append_assoc, append-nil, ltb, lt-ltb}
 use Rattle.std.specs.Prelude.{slice_index}
 use Rattle.std.proofs.lemmas.Bool.{cases_lt, cond-true}
 use Rattle.std.proofs.lemmas.Bool.Decides.{eqb_tells}
-use Rattle.std.proofs.lemmas.List.{length-append, get_or_append_left, get_or_past, get_or_default, get_or-append-add}
+use Rattle.std.proofs.lemmas.List.{get_or_append_left, get_or_past, get_or_default, get_or-append-add}
 use Rattle.quiver_paths.proofs.ListLemmas.{length-pushed}
 use Rattle.linear_algebra.specs.Field.{Gf}
 use Rattle.fp_linear.specs.Matrix.{PlainMatrix}
@@ -78,7 +78,7 @@ pub no_more : (p : Part) (o : Owner) (tokens : List (List ℕ)) → count_of p.f
 no_more p o tokens l next t =
     t.fits.entries (ap (λ k. k * t.item.col_count) (t.fits.shape.row_count ∙ rows_past p.front.header p.dims (here p) o (length p.matrices) l) ∙ zero-mul t.item.col_count)
 
-product_some : (m n : ℕ) → m ≢ 0 → n ≢ 0 → m * n ≢ 0
+pub product_some : (m n : ℕ) → m ≢ 0 → n ≢ 0 → m * n ≢ 0
 product_some zero n a b e = a refl
 product_some (suc m) zero a b e = b refl
 product_some (suc m) (suc n) a b e = absurd (omega (arith, e))
@@ -91,11 +91,8 @@ takes_matrix p o i m tokens next is reads rows columns leads =
     let h = p.front.header in
     let n = length p.matrices in
     let known : Reads (HasShape h.field (rows_of h p.dims (here p) o n) (columns_of h p.dims (here p) o n)) (at_line (name_of h.quiver o n)) tokens (Some m) =
-        subst (λ k. Reads (HasShape h.field (rows_of h p.dims (here p) o k) (columns_of h p.dims (here p) o k)) (at_line (name_of h.quiver o k)) tokens (Some m)) is reads in
+    subst (λ k. Reads (HasShape h.field (rows_of h p.dims (here p) o k) (columns_of h p.dims (here p) o k)) (at_line (name_of h.quiver o k)) tokens (Some m)) is reads in
     takes (FitsMatrix p o) (at_line (name_of h.quiver o n)) (with_matrix p o) tokens m next (record { shape = known.0; entries = product_some m.row_count m.col_count rows columns }, known.1) (one_matrix p o) leads
-
-pub product_of : (m n : ℕ) → m ≢ 0 → n ≢ 0 → m * n ≢ 0
-product_of = product_some
 
 pub none_left : (m n : ℕ) → m ≡ 0 → m * n ≡ 0
 none_left m n e = ap (λ k. k * n) e ∙ zero-mul n

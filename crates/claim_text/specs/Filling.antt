@@ -1,5 +1,5 @@
 -- The matrices without entries that are added one by one.
-use Rattle.std.specs.Prelude.{ℕ, ◌≡◌, ◌+◌, length}
+use Rattle.std.specs.Prelude.{ℕ, ◌≡◌, length}
 use Rattle.claim_text.specs.declared.part.Owner.{Owner}
 use Rattle.claim_text.specs.declared.part.Part.{Part}
 use Rattle.claim_text.specs.Matrices.{filled}

@@ -34,7 +34,11 @@ fn begins_with(line: &[u8], word: &[u8]) -> bool
 
 impl Part {
     /// Reads the first line of a module.
-    fn read_module_line(&self, alloc: Global, tokens: Parts<'_>) -> Result<Option<ModuleHead>, AllocError>
+    fn read_module_line(
+        &self,
+        alloc: Global,
+        tokens: Parts<'_>,
+    ) -> Result<Option<ModuleHead>, AllocError>
         ensures { IfOk result (λ r. Reads (λ (m : ModuleView). FitsModule self.now m.side m.dims) (head_line ((counts_of self.now).modules + 1)) tokens.entry r) }
     {
         if self.records.is_empty() || !self.maps.is_empty() {
@@ -87,7 +91,11 @@ impl Part {
     }
 
     /// Reads the first line of a claim.
-    fn read_claim_line(&self, alloc: Global, tokens: Parts<'_>) -> Result<Option<(u32, Head)>, AllocError>
+    fn read_claim_line(
+        &self,
+        alloc: Global,
+        tokens: Parts<'_>,
+    ) -> Result<Option<(u32, Head)>, AllocError>
         ensures { IfOk result (λ r. Reads (λ (x : ℕ × HeadView). FitsHead self.now x.0 x.1) (λ (x : ℕ × HeadView). claim_line (length self.now.records + 1) x.0 x.1) tokens.entry r) }
     {
         let Some(modules) = self.module_count() else {
@@ -170,7 +178,12 @@ impl Part {
     }
 
     /// Reads what stands between whole objects and claims.
-    fn read_item(&self, alloc: Global, line: &[u8], tokens: Parts<'_>) -> Result<Option<Item>, AllocError>
+    fn read_item(
+        &self,
+        alloc: Global,
+        line: &[u8],
+        tokens: Parts<'_>,
+    ) -> Result<Option<Item>, AllocError>
         requires { strict_tokens line.now ≡ Some tokens }
         ensures { IfOk result (λ r. Reads (FitsItem self.now) (item_line self.now) tokens.entry r) }
     {
@@ -233,7 +246,12 @@ impl Part {
     }
 
     /// Reads what stands between whole objects and claims, if it may follow.
-    pub(crate) fn take_item(&mut self, alloc: Global, line: &[u8], tokens: Parts<'_>) -> Result<bool, AllocError>
+    pub(crate) fn take_item(
+        &mut self,
+        alloc: Global,
+        line: &[u8],
+        tokens: Parts<'_>,
+    ) -> Result<bool, AllocError>
         requires { strict_tokens line.now ≡ Some tokens }
         ensures { IfOk result (λ taken. MatchBool taken (Takes (FitsItem self.old) (item_line self.old) (with_item self.old) tokens.entry self.new)
             ((next : Part) → ¬ Takes (FitsItem self.old) (item_line self.old) (with_item self.old) tokens.entry next)) }

@@ -1,12 +1,11 @@
-//! Reports as texts: their one spelling, and what may follow what has been read of one.
+//! Reports as texts: their one spelling, and reading them.
 #![tactic(auto)]
 
-pub mod laws;
 mod items;
+pub mod laws;
 mod objects;
 mod part;
 mod reader;
 mod taking;
 
-pub use part::{Item, Owner, Part, Place};
 pub use reader::{ReadTextError, read};

@@ -79,7 +79,10 @@ impl Part {
     {
         match owner {
             Owner::Module { side: _side } => self.front.header().quiver.arrows.len(),
-            Owner::Map { source: _source, target: _target } => self.front.header().quiver.vertices.len(),
+            Owner::Map {
+                source: _source,
+                target: _target,
+            } => self.front.header().quiver.vertices.len(),
         }
     }
 

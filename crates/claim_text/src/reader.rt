@@ -7,8 +7,8 @@ ghost use Rattle.claim_text.specs.Refusals.{IsRefused};
 
 use crate::part::{Part, Place};
 use claim_lines::Words;
-use report_types::{End, Records, Report};
 use header_text::HeaderReader;
+use report_types::{End, Records, Report};
 use seq::Seq;
 use std::alloc::{AllocError, Global};
 use std::marker::Model;

@@ -12,11 +12,11 @@ ghost use Rattle.claim_text.specs.Steps.{Takes, TakesTitle, TakesFirst, FitsItem
 
 use crate::part::{Part, Place};
 use claim_lines::{Words, only_count, read_rule, read_step, read_word};
+use header_text::only_number;
 use report_types::{Claim, Record};
 use seq::Seq;
-use std::mem;
-use header_text::only_number;
 use std::alloc::{AllocError, Global};
+use std::mem;
 use text_lines::{LineReader, Parts, strict_tokens};
 
 fn words_place(n: u64, k: usize) -> Place
@@ -174,7 +174,12 @@ impl Part {
     }
 
     /// The first line behind the header.
-    fn take_first(&mut self, alloc: Global, line: &[u8], tokens: Parts<'_>) -> Result<bool, AllocError>
+    fn take_first(
+        &mut self,
+        alloc: Global,
+        line: &[u8],
+        tokens: Parts<'_>,
+    ) -> Result<bool, AllocError>
         requires { strict_tokens line.now ≡ Some tokens }
         ensures { IfOk result (λ taken. MatchBool taken (TakesFirst self.old tokens.entry self.new) ((next : Part) → ¬ TakesFirst self.old tokens.entry next)) }
     {
@@ -186,7 +191,12 @@ impl Part {
     }
 
     /// Reads one line more, given by its tokens, if it may follow.
-    fn take_tokens(&mut self, alloc: Global, line: &[u8], tokens: Parts<'_>) -> Result<bool, AllocError>
+    fn take_tokens(
+        &mut self,
+        alloc: Global,
+        line: &[u8],
+        tokens: Parts<'_>,
+    ) -> Result<bool, AllocError>
         requires { strict_tokens line.now ≡ Some tokens }
         ensures { IfOk result (λ taken. MatchBool taken (TokenStep self.old.place self.old tokens.entry self.new) ((next : Part) → ¬ TokenStep self.old.place self.old tokens.entry next)) }
     {

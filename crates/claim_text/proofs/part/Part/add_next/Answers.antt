@@ -1,5 +1,5 @@
 use Rattle.std.proofs.Common.{arith}
-use Rattle.claim_text.proofs.ObjectReading.{added_one, added_none, product_of, none_left, none_right}
+use Rattle.claim_text.proofs.ObjectReading.{added_one, added_none, product_some, none_left, none_right}
 use Rattle.claim_text.proofs.part.Part.add_next.Goals as goal
 use Rattle.claim_text.proofs.part.Part.add_next.Goals.{else-rows-ne0-via-then-rows-ne0+else-columns-ne0, else-rows-ne0-via-else-rows-ne0}
 
@@ -8,7 +8,7 @@ returns-then-columns-ne0 c =
     let r = c.row_count-rows.result in
     let k = c.column_count-columns.result in
     added_none c.args.self.now c.args.owner c.len-i.result r k c.len-i.ensures c.row_count-rows.ensures c.column_count-columns.ensures
-    (product_of r k (λ e. omega (arith, e, c.if-rows-ne0.true)) (λ e. omega (arith, e, c.if-columns-ne0.true)))
+    (product_some r k (λ e. omega (arith, e, c.if-rows-ne0.true)) (λ e. omega (arith, e, c.if-columns-ne0.true)))
 
 pub returns : goal.returns
 returns c =
