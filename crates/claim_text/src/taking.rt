@@ -110,6 +110,7 @@ impl Part {
     fn close_basis(&mut self, alloc: Global) -> Result<(), AllocError>
         ensures { OnOk result (self.new ≡ claimed (record self.old { modules = []; maps = [] }) self.old.line (Said.Basis self.old.words self.old.steps self.old.rules)) }
     {
+        // There are fewer than 2^32 of each.
         let _modules = self.records.module_count();
         let _maps = self.records.map_count();
         let words = mem::replace(&mut self.words, Words::new(alloc));
