@@ -1,8 +1,8 @@
 -- The lines of a basis are read.
-use Rattle.std.proofs.Common.{◌≡◌, ◌≢◌, ℕ, ◌+◌, ◌<◌, ◌^◌, true, false, List, [], ◌∷◌, ◌++◌, map, length, get_or, cond, codes, decimal, inl, inr, refl, sym, ap, ◌∙◌, subst, arith, append_assoc, append-nil, lit<}
+use Rattle.std.proofs.Common.{◌≡◌, ◌≢◌, ℕ, ◌+◌, ◌<◌, ◌^◌, true, List, [], ◌∷◌, ◌++◌, map, length, get_or, cond, codes, decimal, inl, inr, refl, sym, ap, ◌∙◌, subst, arith, append_assoc, append-nil, lit<}
 use Rattle.std.specs.Prelude.{All, AllPairs, min}
 use Rattle.std.proofs.lemmas.Bool.Decides.{eqb_tells}
-use Rattle.std.proofs.lemmas.List.{map-append, length-append, get_or_append_left}
+use Rattle.std.proofs.lemmas.List.{length-append, get_or_append_left}
 use Rattle.std.proofs.Math.Seq.{get_or-append_seam}
 use Rattle.std.proofs.Math.Nat.{min-eq_left}
 use Rattle.quiver_paths.specs.declared.Path.{Path}
@@ -15,25 +15,20 @@ use Rattle.path_algebra.specs.Words.{IsShortPath}
 use Rattle.path_algebra.specs.Derivations.{NamesEarlier}
 use Rattle.path_algebra.specs.BasisClauses.{HasFactor}
 use Rattle.text_lines.proofs.Digits.{numeral-decimal}
-use Rattle.text_lines.specs.Strict.{strict_line}
-use Rattle.text_lines.specs.Reading.{Reads}
-use Rattle.text_lines.proofs.Readings.{Reads-append}
 use Rattle.header_text.specs.Named.{IsNamed}
 use Rattle.header_text.proofs.WholeLemmas.{IsNamed-allowed}
 use Rattle.report_types.specs.declared.reports.End.TheVariants.{Done}
 use Rattle.report_types.specs.declared.claims.Claim.TheVariants as claim
-use Rattle.report_types.specs.declared.claims.Record.{Record}
 use Rattle.report_types.specs.BasisBlocks.{AreWords, AreWrittenSteps, IsWrittenRule, AreWrittenRules, IsBasisBlock}
 use Rattle.claim_lines.specs.Spelling.{words_line, word_line, steps_line, step_line, rules_line, rule_line}
 use Rattle.claim_lines.specs.Items.{IsCount, counted, FitsWord, FitsStep, FitsRule}
 use Rattle.claim_lines.proofs.FittingLines.{one_fitting_word, one_fitting_step, one_fitting_rule}
-use Rattle.claim_lines.proofs.Clear.{space, words_clear, word_clear, steps_clear, step_clear, rules_clear, rule_clear}
+use Rattle.claim_lines.proofs.Clear.{words_clear, word_clear, steps_clear, step_clear, rules_clear, rule_clear}
 use Rattle.claim_text.specs.declared.part.Place.{Place}
 use Rattle.claim_text.specs.declared.part.Place.TheVariants as place
 use Rattle.claim_text.specs.declared.part.Part.{Part}
 use Rattle.claim_text.specs.Spelling.{step_lines, block_lines}
 use Rattle.claim_text.specs.Part.{words_place, steps_place, with_word_count, with_word, with_step_count, with_step, at_rules, with_rule_count, with_rule}
-use Rattle.claim_text.specs.Steps.{Step}
 use Rattle.claim_text.proofs.Runs.{Run, run_none, run_line, run_append, taken}
 use Rattle.claim_text.proofs.CompleteObjects.{between}
 use Rattle.claim_text.proofs.TakenLines.{takes_number}
@@ -101,9 +96,9 @@ module _ (h : Header) (ok : IsAllowed h) (line : ℕ) where
       let here : at (place.Words n) done [] [] ≡ at (words_place n (length done)) done [] [] = ap (λ s. at s done [] []) (sym (open_words n (length done) (omega (arith, e)))) in
       let end = at place.StepCount (done ++ w ∷ todo) [] [] in
       let rest : Run q (map (word_line h.quiver) todo) end = subst (λ ws. Run q (map (word_line h.quiver) todo) (at place.StepCount ws [] [])) (shift done w todo)
-          (subst (λ k. Run (at (words_place n k) (done ++ w ∷ []) [] []) (map (word_line h.quiver) todo) (at place.StepCount ((done ++ w ∷ []) ++ todo) [] [])) long more) in
+      (subst (λ k. Run (at (words_place n k) (done ++ w ∷ []) [] []) (map (word_line h.quiver) todo) (at place.StepCount ((done ++ w ∷ []) ++ todo) [] [])) long more) in
       subst (λ r. Run r (map (word_line h.quiver) (w ∷ todo)) end) here
-      (run_line p q end (word_line h.quiver w) (map (word_line h.quiver) todo) (λ c out. word_clear c out h named w) refl (taken (FitsWord h done) (word_line h.quiver) (with_word p n) w fits (one_fitting_word h named done)) rest)
+      (run_line p q end (word_line h.quiver w) (map (word_line h.quiver) todo) (λ c out o. word_clear c out h named w) refl (taken (FitsWord h done) (word_line h.quiver) (with_word p n) w fits (one_fitting_word h named done)) rest)
 
   reads_steps : (n : ℕ) (words : List Path) (done todo : List DerivationStep) → length done + length todo ≡ n → AreWrittenSteps h (done ++ todo)
       → Run (at (steps_place n (length done)) words done []) (step_lines h.quiver (length done + 1) todo) (at place.RuleCount words (done ++ todo) [])
@@ -119,9 +114,9 @@ module _ (h : Header) (ok : IsAllowed h) (line : ℕ) where
       let here : at (place.Steps n) words done [] ≡ at (steps_place n k) words done [] = ap (λ s. at s words done []) (sym (open_steps n k (omega (arith, e)))) in
       let end = at place.RuleCount words (done ++ x ∷ todo) [] in
       let rest : Run q (step_lines h.quiver (k + 1 + 1) todo) end = subst (λ ss. Run q (step_lines h.quiver (k + 1 + 1) todo) (at place.RuleCount words ss [])) (shift done x todo)
-          (subst (λ m. Run (at (steps_place n m) words (done ++ x ∷ []) []) (step_lines h.quiver (m + 1) todo) (at place.RuleCount words ((done ++ x ∷ []) ++ todo) [])) long more) in
+      (subst (λ m. Run (at (steps_place n m) words (done ++ x ∷ []) []) (step_lines h.quiver (m + 1) todo) (at place.RuleCount words ((done ++ x ∷ []) ++ todo) [])) long more) in
       subst (λ r. Run r (step_lines h.quiver (k + 1) (x ∷ todo)) end) here
-      (run_line p q end l (step_lines h.quiver (k + 1 + 1) todo) (λ c out. step_clear c out h named few_relations k x fits) refl (taken (FitsStep h k) (step_line h.quiver (k + 1)) (with_step p n) x fits (one_fitting_step h named few_relations k (k + 1))) rest)
+      (run_line p q end l (step_lines h.quiver (k + 1 + 1) todo) (λ c out o. step_clear c out h named few_relations k x fits) refl (taken (FitsStep h k) (step_line h.quiver (k + 1)) (with_step p n) x fits (one_fitting_step h named few_relations k (k + 1))) rest)
 
   behind_rules : (n : ℕ) (words : List Path) (steps : List DerivationStep) (rules : List Rule) → length rules ≡ n → at_rules (at (place.Rules n) words steps rules) n ≡ with_basis words steps rules
   behind_rules n words steps rules e = elim (eqb_tells (length rules) n) [
@@ -150,7 +145,7 @@ module _ (h : Header) (ok : IsAllowed h) (line : ℕ) where
       let more = reads_rules n words steps (done ++ x ∷ []) todo small (omega (arith, e, long)) (subst (AreWrittenRules h (length steps)) (sym (shift done x todo)) are) in
       let end = with_basis words steps (done ++ x ∷ todo) in
       subst (λ r. Run r (map (rule_line h.quiver) (x ∷ todo)) end) (sym (among_rules n words steps done (omega (arith, e))))
-      (run_line p q end l (map (rule_line h.quiver) todo) (λ c out. rule_clear c out h named (length steps) small x fits.written) refl
+      (run_line p q end l (map (rule_line h.quiver) todo) (λ c out o. rule_clear c out h named (length steps) small x fits.written) refl
       (taken (FitsRule h (length steps) k) (rule_line h.quiver) (with_rule p n) x fits (one_fitting_rule h named (length steps) k))
       (subst (λ rs. Run q (map (rule_line h.quiver) todo) (with_basis words steps rs)) (shift done x todo) more))
 
@@ -175,7 +170,7 @@ module _ (h : Header) (ok : IsAllowed h) (line : ℕ) where
       let p = at place.WordCount [] [] [] in
       let few = are.few in
       let big : 4096 < 2 ^ 64 = lit< tt in
-      run_line p (with_word_count p n) (at place.StepCount words [] []) (words_line (decimal n)) (map (word_line h.quiver) words) (λ c out. words_clear c out n (omega arith)) refl
+      run_line p (with_word_count p n) (at place.StepCount words [] []) (words_line (decimal n)) (map (word_line h.quiver) words) (λ c out o. words_clear c out n (omega arith)) refl
       (takes_number (with_word_count p) (words_line (decimal n)) (decimal n ∷ []) n (with_word_count p n) refl are.few refl refl) (reads_words n [] words (omega arith) are)
 
   steps_read : (words : List Path) (steps : List DerivationStep) → AreWrittenSteps h steps
@@ -184,7 +179,7 @@ module _ (h : Header) (ok : IsAllowed h) (line : ℕ) where
       let n = length steps in
       let p = at place.StepCount words [] [] in
       let d = decimal n in
-      run_line p (with_step_count p d) (at place.RuleCount words steps []) (steps_line d) (step_lines h.quiver 1 steps) (λ c out. steps_clear c out n (number n are.few)) refl
+      run_line p (with_step_count p d) (at place.RuleCount words steps []) (steps_line d) (step_lines h.quiver 1 steps) (λ c out o. steps_clear c out n (number n are.few)) refl
       (taken IsCount steps_line (with_step_count p) d (count_of n are.few) (one_numeral (codes "steps")))
       (subst (λ m. Run (at (steps_place m 0) words [] []) (step_lines h.quiver 1 steps) (at place.RuleCount words steps [])) (sym (counts_as n are.few)) (reads_steps n words [] steps (omega arith) are))
 
@@ -194,7 +189,7 @@ module _ (h : Header) (ok : IsAllowed h) (line : ℕ) where
       let n = length rules in
       let p = at place.RuleCount words steps [] in
       let d = decimal n in
-      run_line p (with_rule_count p d) (with_basis words steps rules) (rules_line d) (map (rule_line h.quiver) rules) (λ c out. rules_clear c out n (number n are.few)) refl
+      run_line p (with_rule_count p d) (with_basis words steps rules) (rules_line d) (map (rule_line h.quiver) rules) (λ c out o. rules_clear c out n (number n are.few)) refl
       (taken IsCount rules_line (with_rule_count p) d (count_of n are.few) (one_numeral (codes "rules")))
       (subst (λ m. Run (at_rules (at (place.Rules m) words steps []) m) (map (rule_line h.quiver) rules) (with_basis words steps rules)) (sym (counts_as n are.few)) (reads_rules n words steps [] rules small (omega arith) are))
 

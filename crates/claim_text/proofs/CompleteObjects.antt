@@ -1,18 +1,15 @@
 -- The lines of modules and maps are read.
-use Rattle.std.proofs.Common.{◌≡◌, ◌≢◌, ℕ, zero, suc, ◌+◌, ◌*◌, ◌<◌, ◌≤◌, ◌^◌, Bool, true, false, List, [], ◌∷◌, ◌++◌, map, length, get_or, cond, inl, inr, refl, sym, ap, ◌∙◌, subst, arith, append_assoc, append-nil, lit<}
+use Rattle.std.proofs.Common.{◌≡◌, ◌≢◌, ℕ, ◌+◌, ◌*◌, ◌<◌, ◌^◌, true, List, [], ◌∷◌, ◌++◌, length, cond, inl, inr, refl, sym, ap, ◌∙◌, subst, arith, append_assoc, append-nil, lit<}
 use Rattle.std.specs.Prelude.{All}
 use Rattle.std.proofs.lemmas.Bool.Decides.{eqb_tells}
 use Rattle.std.proofs.lemmas.Bool.{cases_eq}
-use Rattle.std.proofs.lemmas.List.{map-append, length-append}
 use Rattle.std.proofs.lemmas.List.Elements.{All-head, All-tail}
 use Rattle.std.proofs.Math.Seq.{get_or-append_seam}
 use Rattle.quiver_paths.proofs.ListLemmas.{length-pushed}
-use Rattle.quiver_paths.specs.Quiver.{vertex_count, arrow_count}
+use Rattle.quiver_paths.specs.Quiver.{vertex_count}
 use Rattle.fp_linear.specs.Matrix.{PlainMatrix}
 use Rattle.path_algebra.specs.declared.Header.{Header}
 use Rattle.path_algebra.specs.Allowed.{IsAllowed}
-use Rattle.text_lines.specs.Reading.{Reads}
-use Rattle.text_lines.proofs.Readings.{Reads-append}
 use Rattle.header_text.specs.Named.{IsNamed}
 use Rattle.header_text.specs.Spelling.{arrow_name, vertex_name}
 use Rattle.header_text.proofs.WholeLemmas.{IsNamed-allowed}
@@ -21,24 +18,21 @@ use Rattle.module_types.specs.declared.Side.TheVariants.{Right, Left}
 use Rattle.module_types.specs.declared.Module.{Module}
 use Rattle.module_types.specs.declared.Map.{Map}
 use Rattle.module_types.specs.Algebras.{algebra_at}
-use Rattle.module_types.specs.Shapes.{HasShape, AreMatrices, IsModule, dimension, most_dimension}
+use Rattle.module_types.specs.Shapes.{HasShape, AreMatrices, IsModule}
 use Rattle.object_lines.specs.Spelling.{module_line, map_line, at_line, at_lines}
 use Rattle.report_types.specs.declared.claims.Record.{Record}
 use Rattle.report_types.specs.declared.reports.End.TheVariants.{Done}
-use Rattle.report_types.specs.Numbers.{modules_of, maps_of, module_of, numbered, no_module}
+use Rattle.report_types.specs.Numbers.{modules_of, maps_of}
 use Rattle.report_types.specs.Lawful.{IsModuleBlock, IsMapBlock}
-use Rattle.claim_lines.proofs.Clear.{ClearLine, space}
 use Rattle.claim_text.specs.declared.part.Owner.{Owner}
 use Rattle.claim_text.specs.declared.part.Owner.TheVariants as owner
-use Rattle.claim_text.specs.declared.part.Place.{Place}
 use Rattle.claim_text.specs.declared.part.Place.TheVariants as place
 use Rattle.claim_text.specs.declared.part.Part.{Part}
-use Rattle.claim_text.specs.declared.part.Item.{Item}
 use Rattle.claim_text.specs.declared.part.Item.TheVariants as item
-use Rattle.claim_text.specs.Matrices.{empty_matrix, filled}
+use Rattle.claim_text.specs.Matrices.{filled}
 use Rattle.claim_text.specs.Spelling.{at_arrows, at_vertices, module_lines, map_lines}
 use Rattle.claim_text.specs.Part.{unclaimed, here, counts_of, count_of, name_of, rows_of, columns_of, closed, at_matrices, fill, with_matrix, with_item}
-use Rattle.claim_text.specs.Steps.{Takes, TokenStep, is_header_line, StepBy, Step, FitsItem, item_line, FitsMatrix}
+use Rattle.claim_text.specs.Steps.{FitsItem, item_line, FitsMatrix}
 use Rattle.claim_text.proofs.Runs.{Run, run_none, run_line, run_append, taken}
 use Rattle.claim_text.proofs.MatrixBlocks.{only_empty, filled_empty, filled_entry, filled_whole, at_lines-empty, at_lines-entry}
 use Rattle.claim_text.proofs.ObjectLists.{map_block_same, modules_push, modules_count, maps_count}
@@ -119,7 +113,7 @@ module _ (h : Header) (ok : IsAllowed h) where
               let same : p ≡ fill (state done) o = sym (ap (λ l. at_matrices (state l) o) (filled_entry h.field R C (count_of h o) done some) ∙ open_at done inside) in
               subst (λ ls. Run (fill (state done) o) ls end) (sym (at_lines-entry (name_of h.quiver o) i a rest differs))
               (subst (λ q. Run q (ts ∷ at_lines (name_of h.quiver o) (i + 1) rest) end) same
-              (run_line p (with_matrix p o a) end ts (at_lines (name_of h.quiver o) (i + 1) rest) (λ c out. matrix_clear c out p o a named fits) refl
+              (run_line p (with_matrix p o a) end ts (at_lines (name_of h.quiver o) (i + 1) rest) (λ c out apart. matrix_clear c out apart p o a named fits) refl
               (taken (FitsMatrix p o) (at_line (name_of h.quiver o i)) (with_matrix p o) a fits (one_matrix p o)) next))
         ]
 
@@ -145,7 +139,7 @@ module _ (h : Header) (ok : IsAllowed h) where
       let counted = are.counted in
       let rest = reads_matrices rs ms [] m.dims (owner.Module m.side) [] m.matrices (omega (arith, counted)) are in
       subst (λ n. Run p (module_line n m.side m.dims ∷ at_arrows h m.matrices) (between rs (ms ++ m ∷ []) [])) number
-      (run_line p (with_item p x) (between rs (ms ++ m ∷ []) []) (item_line p x) (at_lines (arrow_name h.quiver) 0 m.matrices) (λ c out. item_clear c out p x named few_relations fits) refl (taken (FitsItem p) (item_line p) (with_item p) x fits (one_item p named few_relations)) rest)
+      (run_line p (with_item p x) (between rs (ms ++ m ∷ []) []) (item_line p x) (at_lines (arrow_name h.quiver) 0 m.matrices) (λ c out o. item_clear c out o p x named few_relations fits) refl (taken (FitsItem p) (item_line p) (with_item p) x fits (one_item p named few_relations)) rest)
 
   pub modules_read : (rs : List Record) (done todo : List Module) (k : ℕ) → 0 < length rs → k ≡ length (modules_of rs) + length done → length (modules_of rs) + (length done + length todo) < 2 ^ 32 → All (IsModuleBlock h) todo
       → Run (between rs done []) (module_lines h k todo) (between rs (done ++ todo) [])
@@ -170,7 +164,7 @@ module _ (h : Header) (ok : IsAllowed h) where
       let counted = block.matrices.counted in
       let rest = reads_matrices rs ms fs [] (owner.Map f.source f.target) [] f.matrices (omega (arith, counted)) block.matrices in
       subst (λ n. Run p (map_line n f.source f.target ∷ at_vertices h f.matrices) (between rs ms (fs ++ f ∷ []))) number
-      (run_line p (with_item p x) (between rs ms (fs ++ f ∷ [])) (item_line p x) (at_lines (vertex_name h.quiver) 0 f.matrices) (λ c out. item_clear c out p x named few_relations fits) refl (taken (FitsItem p) (item_line p) (with_item p) x fits (one_item p named few_relations)) rest)
+      (run_line p (with_item p x) (between rs ms (fs ++ f ∷ [])) (item_line p x) (at_lines (vertex_name h.quiver) 0 f.matrices) (λ c out o. item_clear c out o p x named few_relations fits) refl (taken (FitsItem p) (item_line p) (with_item p) x fits (one_item p named few_relations)) rest)
 
   pub maps_read : (rs all : List Record) (ms : List Module) (done todo : List Map) (k : ℕ) → 0 < length rs → modules_of all ≡ modules_of rs ++ ms → k ≡ length (maps_of rs) + length done
       → length (maps_of rs) + (length done + length todo) < 2 ^ 32 → length (modules_of rs) + length ms < 2 ^ 32 → All (IsMapBlock h all) todo → Run (between rs ms done) (map_lines h k todo) (between rs ms (done ++ todo))

@@ -1,5 +1,5 @@
 -- The lines of a report are read, and lead to that report.
-use Rattle.std.proofs.Common.{◌≡◌, ◌≢◌, ℕ, zero, suc, ◌+◌, ◌<◌, ◌≤◌, ◌^◌, false, true, List, [], ◌∷◌, ◌++◌, map, length, cond, codes, refl, sym, ap, ◌∙◌, subst, arith, append_assoc, append-nil, lit<}
+use Rattle.std.proofs.Common.{◌≡◌, ℕ, ◌+◌, ◌<◌, ◌^◌, false, true, List, [], ◌∷◌, ◌++◌, map, length, cond, refl, sym, ap, ◌∙◌, subst, arith, append_assoc, append-nil, lit<}
 use Rattle.std.specs.Prelude.{All, take}
 use Rattle.std.proofs.lemmas.List.{length-append}
 use Rattle.std.proofs.lemmas.List.Elements.{All-head, All-tail}
@@ -14,7 +14,7 @@ use Rattle.text_lines.proofs.StrictLaws.{strict_tokens-strict_line}
 use Rattle.header_text.specs.declared.forms.Form.{Form}
 use Rattle.header_text.specs.declared.forms.Form.TheVariants.{Field, Vertex, Arrow as ArrowForm, Bound, Relation as RelationForm}
 use Rattle.header_text.specs.Named.{IsNamed}
-use Rattle.header_text.specs.Spelling.{header_lines, text_of}
+use Rattle.header_text.specs.Spelling.{header_lines}
 use Rattle.header_text.specs.Part.{Part as HeaderPart, start as header_start, IsStart, tokens_of, Step as HeaderStep}
 use Rattle.header_text.proofs.WholeLemmas.{reads_header, IsNamed-allowed, header_lacks, lines_of_text}
 use Rattle.module_types.specs.declared.Module.{Module}
@@ -30,28 +30,27 @@ use Rattle.report_types.specs.Limits.{IsLine}
 use Rattle.report_types.specs.Numbers.{modules_of, maps_of, record_of, claim_of, NamesModule, NamesMap}
 use Rattle.report_types.specs.NamedClaims.{IsLocalClaim}
 use Rattle.report_types.specs.ClaimBlocks.{IsClaimBlock, IsPart}
-use Rattle.report_types.specs.Ends.{IsEmptyEnd, IsFullEnd, IsEnd}
+use Rattle.report_types.specs.Ends.{IsEmptyEnd, IsFullEnd}
 use Rattle.report_types.specs.Lawful.{IsRecord, HasItsPlace, MayBeRecord, IsReport}
 use Rattle.claim_lines.specs.declared.heads.Head.{Head}
 use Rattle.claim_lines.specs.declared.heads.Head.TheVariants as head
 use Rattle.claim_lines.specs.Spelling.{title_line, claim_line, end_line}
-use Rattle.claim_lines.specs.Items.{FitsClaim, FitsEnd, ArePartNumbers}
-use Rattle.claim_lines.proofs.Clear.{Outside, title_clear, space}
-use Rattle.claim_text.specs.declared.part.Place.{Place}
+use Rattle.claim_lines.specs.Items.{FitsClaim, ArePartNumbers}
+use Rattle.object_lines.proofs.ClearLines.{space_stands}
+use Rattle.claim_lines.proofs.Clear.{title_clear, space}
 use Rattle.claim_text.specs.declared.part.Place.TheVariants as place
 use Rattle.claim_text.specs.declared.part.Part.{Part}
-use Rattle.claim_text.specs.declared.part.Item.{Item}
 use Rattle.claim_text.specs.declared.part.Item.TheVariants as item
-use Rattle.claim_text.specs.Spelling.{block_lines, module_lines, map_lines, head_of, claim_block, record_lines, records_lines, report_lines, report_text}
-use Rattle.claim_text.specs.Part.{start, report_of, unclaimed, here, counts_of, claimed, with_head, with_item}
-use Rattle.claim_text.specs.Steps.{Takes, TokenStep, begins_body, lexed_begins, is_header_line, StepBy, Step, FitsKind, FitsHead, FitsItem, item_line}
+use Rattle.claim_text.specs.Spelling.{block_lines, module_lines, map_lines, head_of, claim_block, record_lines, records_lines, report_lines}
+use Rattle.claim_text.specs.Part.{start, report_of, unclaimed, counts_of, with_head, with_item}
+use Rattle.claim_text.specs.Steps.{TokenStep, begins_body, lexed_begins, is_header_line, StepBy, Step, FitsKind, FitsHead, FitsItem, item_line}
 use Rattle.claim_text.specs.Judged.{IsJudgedHead, IsJudged}
 use Rattle.claim_text.specs.Texts.{IsTextOf}
 use Rattle.claim_text.proofs.Runs.{Run, run_none, run_line, run_append, taken}
-use Rattle.claim_text.proofs.ObjectLists.{same_modules, same_maps, modules_push, maps_push, modules_count, maps_count, claim_earlier, record_behind, modules_append, maps_append}
+use Rattle.claim_text.proofs.ObjectLists.{same_modules, same_maps, modules_push, modules_count, maps_count, claim_earlier, record_behind, modules_append, maps_append}
 use Rattle.claim_text.proofs.OtherLines.{one_item, item_clear}
 use Rattle.claim_text.proofs.CompleteObjects.{between, modules_read, maps_read}
-use Rattle.claim_text.proofs.CompleteBasis.{at, with_basis, basis_read}
+use Rattle.claim_text.proofs.CompleteBasis.{with_basis, basis_read}
 
 -- ---- the header
 
@@ -90,7 +89,7 @@ module _ (h : Header) (ok : IsAllowed h) where
 
   front_read : Run start (title_line ∷ header_lines h) open_header
   front_read =
-      run_line start (header_at header_start) open_header title_line (header_lines h) (λ c out. title_clear c out) refl record { title = refl; leads = refl }
+      run_line start (header_at header_start) open_header title_line (header_lines h) (λ c out o. title_clear c out) refl record { title = refl; leads = refl }
       record { reads = header_reads header_start record { is_begun = true; header = h } (map strict_line (header_lines h)) (reads_header header_start h header_is_start ok); lacks = header_lacks h ok }
 
   -- ---- claims
@@ -120,7 +119,7 @@ module _ (h : Header) (ok : IsAllowed h) where
     head_read : (line : ℕ) (x : Head) (q : Part) → with_head p line x ≡ q → FitsHead p line x → Run p (claim_line (length rs + 1) line x ∷ []) q
     head_read line x q e fits =
         let y = item.Claim line x in
-        run_line p (with_item p y) q (item_line p y) [] (λ c out. item_clear c out p y named few_relations fits) refl (taken (FitsItem p) (item_line p) (with_item p) y fits (one_item p named few_relations)) (run_none (with_item p y) q (sym e))
+        run_line p (with_item p y) q (item_line p y) [] (λ c out o. item_clear c out o p y named few_relations fits) refl (taken (FitsItem p) (item_line p) (with_item p) y fits (one_item p named few_relations)) (run_none (with_item p y) q (sym e))
 
     part_numbers : (line : ℕ) (c : Claim) (parts : List PartClaim) → All (IsPart h (with_claim line c)) parts → All (ArePartNumbers (length rs) (counts_of p).modules) parts
     part_numbers line c parts are = λ i d l.
@@ -163,8 +162,10 @@ module _ (h : Header) (ok : IsAllowed h) where
           room = room;
           is_line = is;
           numbers = (
-            module_number line c a block.whole.is_module, module_number line c s block.sum.is_module,
-            map_number line c f block.whole.is_map, map_number line c g block.sum.is_map,
+            module_number line c a block.whole.is_module,
+            module_number line c s block.sum.is_module,
+            map_number line c f block.whole.is_map,
+            map_number line c g block.sum.is_map,
             part_numbers line c parts block.each,
           );
         } read (some, part_kinds line c parts block.each))
@@ -207,7 +208,7 @@ module _ (h : Header) (ok : IsAllowed h) where
       ap (λ l. length (maps_of l)) (sym again) ∙ (ap length (maps_append (done ++ r ∷ []) rest) ∙ length-append (maps_of (done ++ r ∷ [])) (maps_of rest)) in
       let one = record_read done r some (omega (arith, few, all_long, long)) (omega (arith, few_modules, all_modules)) (omega (arith, few_maps, all_maps)) (record_behind h done r rest each) (All-head (λ (x : Record). IsJudged x.claim) r rest read) in
       let more = records_read (done ++ r ∷ []) rest (omega (arith, long)) (subst (λ l. length l < 2 ^ 32) (sym again) few) (subst (λ l. length (modules_of l) < 2 ^ 32) (sym again) few_modules)
-          (subst (λ l. length (maps_of l) < 2 ^ 32) (sym again) few_maps) (subst (λ l. (k : ℕ) → MayBeRecord h (take k l) (record_of l k)) (sym again) each) (All-tail (λ (x : Record). IsJudged x.claim) r rest read) in
+      (subst (λ l. length (maps_of l) < 2 ^ 32) (sym again) few_maps) (subst (λ l. (k : ℕ) → MayBeRecord h (take k l) (record_of l k)) (sym again) each) (All-tail (λ (x : Record). IsJudged x.claim) r rest read) in
       let M = length (modules_of done) in
       let F = length (maps_of done) in
       run_append (between h ok done [] []) (between h ok (done ++ r ∷ []) [] []) (between h ok (done ++ r ∷ rest) [] []) (record_lines h M F (length done) r)
@@ -226,11 +227,11 @@ module _ (h : Header) (ok : IsAllowed h) where
       let low = ok.bound_from in
       let p = open_header in
       let fits : FitsItem p x = record { few_modules = lit< tt; few_maps = lit< tt; claim = record { room = lit< tt; is_line = is.line; numbers = tt }; judged = tt; kind = record { first = refl; no_module = refl; no_map = refl } } in
-      let clear = item_clear 32 space p x named few_relations fits in
+      let clear = item_clear 32 space space_stands p x named few_relations fits in
       let opens : is_header_line place.Header (strict_line (item_line p x)) ≡ false = ap (λ ts. cond (lexed_begins ts) false true) (strict_tokens-strict_line (item_line p x) clear.some clear.lacks) in
       let step : TokenStep place.Header p (item_line p x) (with_item p x) = record { ends = omega (arith, low); first = taken (FitsItem p) (item_line p) (with_item p) x fits (one_item p named few_relations) } in
       let goal : Run p (record_lines h 0 0 0 record { line = line; modules = []; maps = []; claim = c }) (between h ok (record { line = line; modules = []; maps = []; claim = c } ∷ []) [] []) =
-      run_line p (with_item p x) (with_basis h ok line words steps rules) (item_line p x) (block_lines h.quiver words steps rules) (λ c out. item_clear c out p x named few_relations fits) opens step (basis_read h ok line words steps rules is.claim) in
+      run_line p (with_item p x) (with_basis h ok line words steps rules) (item_line p x) (block_lines h.quiver words steps rules) (λ c out o. item_clear c out o p x named few_relations fits) opens step (basis_read h ok line words steps rules is.claim) in
       subst (λ l. Run p (record_lines h 0 0 0 record { line = line; modules = l; maps = fs; claim = c }) (between h ok (record { line = line; modules = l; maps = fs; claim = c } ∷ []) [] [])) (sym is.place.1)
       (subst (λ l. Run p (record_lines h 0 0 0 record { line = line; modules = []; maps = l; claim = c }) (between h ok (record { line = line; modules = []; maps = l; claim = c } ∷ []) [] [])) (sym is.place.2) goal)
   first_read line ms fs (claim.Module m) is = absurd (let l = is.place in omega (arith, l))
@@ -258,18 +259,18 @@ module _ (h : Header) (ok : IsAllowed h) where
       let p = open_header in
       let x = item.End e in
       let low = ok.bound_from in
-      let fits : FitsItem p x = record { no_module = refl; no_map = refl; ends = is } in
-      let clear = item_clear 32 space p x named few_relations fits in
+      let fits : FitsItem p x = record { few = lit< tt; no_module = refl; no_map = refl; ends = is } in
+      let clear = item_clear 32 space space_stands p x named few_relations fits in
       let opens : is_header_line place.Header (strict_line (item_line p x)) ≡ false = ap (λ ts. cond (lexed_begins ts) false true) (strict_tokens-strict_line (item_line p x) clear.some clear.lacks) in
-      run_line p (with_item p x) (ended [] e) (item_line p x) [] (λ c out. item_clear c out p x named few_relations fits) opens record { ends = omega (arith, low); first = taken (FitsItem p) (item_line p) (with_item p) x fits (one_item p named few_relations) }
+      run_line p (with_item p x) (ended [] e) (item_line p x) [] (λ c out o. item_clear c out o p x named few_relations fits) opens record { ends = omega (arith, low); first = taken (FitsItem p) (item_line p) (with_item p) x fits (one_item p named few_relations) }
       (run_none (with_item p x) (ended [] e) refl)
 
-  full_ends : (r : Record) (rest : List Record) (e : End) → IsFullEnd h e → Run (between h ok (r ∷ rest) [] []) (end_line h (length (r ∷ rest)) e ∷ []) (ended (r ∷ rest) e)
-  full_ends r rest e is =
+  full_ends : (r : Record) (rest : List Record) (e : End) → length (r ∷ rest) < 2 ^ 32 → IsFullEnd h e → Run (between h ok (r ∷ rest) [] []) (end_line h (length (r ∷ rest)) e ∷ []) (ended (r ∷ rest) e)
+  full_ends r rest e few is =
       let p = between h ok (r ∷ rest) [] [] in
       let x = item.End e in
-      let fits : FitsItem p x = record { no_module = refl; no_map = refl; ends = is } in
-      run_line p (with_item p x) (ended (r ∷ rest) e) (item_line p x) [] (λ c out. item_clear c out p x named few_relations fits) refl (taken (FitsItem p) (item_line p) (with_item p) x fits (one_item p named few_relations)) (run_none (with_item p x) (ended (r ∷ rest) e) refl)
+      let fits : FitsItem p x = record { few = few; no_module = refl; no_map = refl; ends = is } in
+      run_line p (with_item p x) (ended (r ∷ rest) e) (item_line p x) [] (λ c out o. item_clear c out o p x named few_relations fits) refl (taken (FitsItem p) (item_line p) (with_item p) x fits (one_item p named few_relations)) (run_none (with_item p x) (ended (r ∷ rest) e) refl)
 
   report_reads : (rs : List Record) (e : End) → IsReport record { header = h; records = rs; end = e } → All (λ (r : Record). IsJudged r.claim) rs
       → Run start (report_lines record { header = h; records = rs; end = e }) (ended rs e)
@@ -285,7 +286,7 @@ module _ (h : Header) (ok : IsAllowed h) where
       run_append start open_header (ended (r ∷ rest) e) (title_line ∷ header_lines h) (records_lines h 0 0 0 (r ∷ rest) ++ end_line h (length (r ∷ rest)) e ∷ []) front_read
       (run_append open_header (between h ok (r ∷ rest) [] []) (ended (r ∷ rest) e) (records_lines h 0 0 0 (r ∷ rest)) (end_line h (length (r ∷ rest)) e ∷ [])
       (run_append open_header (between h ok (r ∷ []) [] []) (between h ok (r ∷ rest) [] []) (record_lines h 0 0 0 r) (records_lines h (0 + length r.modules) (0 + length r.maps) (0 + 1) rest) first more')
-      (full_ends r rest e is.ends))
+      (full_ends r rest e is.few is.ends))
 
 -- the lines of a report are read, and lead to it
 pub record ReadsTo (r : Report) (xs : List (List ℕ)) : Type 0 where

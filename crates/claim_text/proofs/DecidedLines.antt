@@ -98,7 +98,7 @@ tokens_go (place.Rules n) p front ts =
     takes_go (RuleIn h k (length ts)) (FitsRule h k j) (rule_line h.quiver) (with_rule p n) ts (one_fitting_rule h front.named k j) (rules_listed h front.named.ends k (length ts)) (rule_in h k j ts) (rule_decided h k j)
 tokens_go place.Between p front ts = item_go p front ts
 tokens_go (place.Matrices o) p front ts =
-    decided_go (FitsMatrix p o) (at_line (name_of p.front.header.quiver o (length p.matrices))) (with_matrix p o) ts (one_matrix p o) (matrix_decided p o front.named ts)
+    decided_go (FitsMatrix p o) (at_line (name_of p.front.header.quiver o (length p.matrices))) (with_matrix p o) ts (one_matrix p o) (matrix_decided p o ts)
 tokens_go place.Ended p front ts = inr (λ q t. t)
 
 same_some : {A : Type 0} (x y : A) → Some x ≡ Some y → x ≡ y
@@ -150,7 +150,7 @@ fill_kept p o = matrices_kept (record p { matrices = filled p.front.header.field
 rules_kept : (p : Part) (n : ℕ) → (at_rules p n).front ≡ p.front
 rules_kept p n = by (length p.rules == n)
   where
-    by : (b : Bool) → (cond b (claimed p p.line (claim.Basis p.words p.steps p.rules)) (record p { place = place.Rules n })).front ≡ p.front
+    by : (b : Bool) → (cond b (claimed (record p { modules = []; maps = [] }) p.line (claim.Basis p.words p.steps p.rules)) (record p { place = place.Rules n })).front ≡ p.front
     by true = refl
     by false = refl
 

@@ -3,6 +3,8 @@ pub mod OtherLines
 pub mod Runs
 pub mod ObjectLists
 pub mod TakenLines
+pub mod ObjectReading
+pub mod ItemReading
 pub mod CompleteObjects
 pub mod CompleteBasis
 pub mod CompleteRecords

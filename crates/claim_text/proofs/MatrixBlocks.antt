@@ -1,16 +1,15 @@
 -- Matrices that are read one by one, those without entries by themselves.
-use Rattle.std.proofs.Common.{◌≡◌, ◌≢◌, ℕ, zero, suc, ◌+◌, ◌*◌, ◌-◌, ◌<◌, ◌≤◌, Bool, true, false, List, [], ◌∷◌, ◌++◌, map, length, get_or, cond, replicate, inl, inr, refl, sym, ap, ◌∙◌, subst, arith, append_assoc, append-nil}
+use Rattle.std.proofs.Common.{◌≡◌, ◌≢◌, ℕ, zero, suc, ◌+◌, ◌*◌, ◌-◌, ◌<◌, true, false, List, [], ◌∷◌, ◌++◌, length, get_or, cond, replicate, inl, inr, refl, sym, ap, ◌∙◌, subst, arith, append_assoc, append-nil}
 use Rattle.std.specs.Prelude.{◌&&◌, nat_lt}
 use Rattle.std.proofs.Common.{lt-ltb}
 use Rattle.std.proofs.Math.Nat.{mul-zero, zero-mul}
 use Rattle.std.proofs.lemmas.Bool.Decides.{eqb_tells}
 use Rattle.std.proofs.lemmas.Bool.{cases_lt, cases_eq}
-use Rattle.std.proofs.lemmas.List.{length-append, get_or_append_left, get_or_push, get_or_past, length-replicate, get_or-replicate}
+use Rattle.std.proofs.lemmas.List.{length-append, get_or_append_left, get_or_push}
 use Rattle.quiver_paths.proofs.ListLemmas.{length-pushed}
 use Rattle.linear_algebra.specs.Field.{Gf}
 use Rattle.linear_algebra.specs.FieldLaws.{order-pos}
-use Rattle.linear_algebra.specs.Rows.{entry, zeros, list_of, rows_of, IsGrid}
-use Rattle.linear_algebra.proofs.Rows.{rows_same, length-list_of, get_or-list_of}
+use Rattle.linear_algebra.proofs.Rows.{rows_same}
 use Rattle.fp_linear.specs.Matrix.{PlainMatrix, plain, zero_rows, IsMatrix}
 use Rattle.fp_linear.proofs.Matrices.{IsMatrix-held, rows_of-zeros}
 use Rattle.module_types.specs.Shapes.{HasShape, AreMatrices}
@@ -39,7 +38,7 @@ only_empty q m n a e s =
     let z = (empty_shape q m n e).matrix.grid in
     let g = s.matrix.grid in
     let same : a.rows ≡ zero_rows m n = rows_same m n a.rows (zero_rows m n) (g.count ∙ s.row_count) z.count
-        (λ i l. g.width i (omega (arith, l, s.row_count)) ∙ s.col_count) z.width (λ i j l k. absurd (some_product m n i j l k e)) in
+    (λ i l. g.width i (omega (arith, l, s.row_count)) ∙ s.col_count) z.width (λ i j l k. absurd (some_product m n i j l k e)) in
     λ i. record { field = s.field i; row_count = s.row_count i; col_count = s.col_count i; rows = same i }
 
 module _ (q : Gf) (rows columns : ℕ → ℕ) where

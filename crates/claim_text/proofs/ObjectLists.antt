@@ -1,6 +1,6 @@
 -- Objects and records by their numbers, where records are added one by one.
 use Rattle.std.proofs.Common.{◌≡◌, ℕ, zero, suc, ◌+◌, ◌<◌, ◌≤◌, List, [], ◌∷◌, ◌++◌, length, Some, None, inl, inr, refl, sym, ap, ◌∙◌, subst, arith, append_assoc, append-nil}
-use Rattle.std.specs.Prelude.{All, take, slice_get}
+use Rattle.std.specs.Prelude.{take, slice_get}
 use Rattle.std.proofs.lemmas.Bool.{cases_lt}
 use Rattle.std.proofs.lemmas.List.{length-append, take-append-le}
 use Rattle.std.proofs.Math.Seq.{take-length}
@@ -8,11 +8,10 @@ use Rattle.quiver_paths.proofs.ListLemmas.{length-pushed}
 use Rattle.path_algebra.specs.declared.Header.{Header}
 use Rattle.path_algebra.specs.Derivations.{IsNumber}
 use Rattle.bound_algebra.specs.TypedPaths.{quiver_of}
-use Rattle.module_types.specs.declared.Module.{Module}
 use Rattle.module_types.specs.declared.Map.{Map}
 use Rattle.module_types.specs.Shapes.{IsMap}
 use Rattle.report_types.specs.declared.claims.Record.{Record}
-use Rattle.report_types.specs.Numbers.{modules_of, maps_of, module_of, numbered, no_module, record_of, claim_in, claim_of, NamesClaim}
+use Rattle.report_types.specs.Numbers.{modules_of, maps_of, numbered, no_module, record_of, claim_in, claim_of}
 use Rattle.report_types.specs.Lawful.{IsMapBlock, IsRecord, MayBeRecord}
 
 pub modules_push : (rs : List Record) (r : Record) → modules_of (rs ++ r ∷ []) ≡ modules_of rs ++ r.modules
@@ -89,9 +88,9 @@ record_behind h done r rest each =
     let all = done ++ r ∷ rest in
     let long : length (done ++ r ∷ []) ≡ length done + 1 = length-pushed done (done ++ r ∷ []) r refl in
     let front : take (suc (length done)) all ≡ done ++ r ∷ [] =
-        ap (take (suc (length done))) (sym (append_assoc done (r ∷ []) rest))
-        ∙ (take-append-le (suc (length done)) (done ++ r ∷ []) rest (omega (arith, long))
-        ∙ (ap (λ n. take n (done ++ r ∷ [])) (let m : suc (length done) ≡ length (done ++ r ∷ []) = omega (arith, long) in m) ∙ take-length (done ++ r ∷ []))) in
+    ap (take (suc (length done))) (sym (append_assoc done (r ∷ []) rest))
+    ∙ (take-append-le (suc (length done)) (done ++ r ∷ []) rest (omega (arith, long))
+    ∙ (ap (λ n. take n (done ++ r ∷ [])) (let m : suc (length done) ≡ length (done ++ r ∷ []) = omega (arith, long) in m) ∙ take-length (done ++ r ∷ []))) in
     subst (λ l. IsRecord h l r) front (subst (λ o. MayBeRecord h (take (suc (length done)) all) o) (get-last done r rest) (each (suc (length done))))
 
 pub modules_append : (xs ys : List Record) → modules_of (xs ++ ys) ≡ modules_of xs ++ modules_of ys

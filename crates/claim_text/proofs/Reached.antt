@@ -1,5 +1,5 @@
 -- What holds of what has been read of a report, and of the lines that were read.
-use Rattle.std.proofs.Common.{◌≡◌, ◌≢◌, ℕ, ◌+◌, ◌<◌, ◌≤◌, ◌^◌, List, [], ◌∷◌, ◌++◌, map, length, get_or, decimal, inl, inr, refl, sym, ap, ◌∙◌, subst, arith, append_assoc, append-nil, lit<}
+use Rattle.std.proofs.Common.{◌≡◌, ◌≢◌, ℕ, ◌+◌, ◌<◌, ◌≤◌, ◌^◌, List, [], ◌∷◌, ◌++◌, map, length, get_or, decimal, inl, inr, refl, sym, ap, ◌∙◌, subst, arith, append_assoc, lit<}
 use Rattle.std.specs.Prelude.{All, AllPairs, min}
 use Rattle.std.specs.Str.Parse.{digits_value}
 use Rattle.std.proofs.lemmas.Bool.{cases_lt}
@@ -23,7 +23,7 @@ use Rattle.report_types.specs.Limits.{IsLine, path_limit}
 use Rattle.report_types.specs.BasisBlocks.{AreWords, AreWrittenSteps, IsWrittenRule, IsBasisBlock}
 use Rattle.claim_lines.specs.Spelling.{title_line, claim_line, words_line, word_line, steps_line, step_line, rules_line, rule_line}
 use Rattle.claim_lines.specs.declared.heads.Head.TheVariants as head
-use Rattle.claim_text.specs.Spelling.{step_lines, block_lines}
+use Rattle.claim_text.specs.Spelling.{step_lines}
 use Rattle.claim_lines.specs.Items.{IsCount, counted, FitsWord, FitsStep, FitsRule}
 
 step_lines-push : (Q : Quiver) (k : ℕ) (steps : List Step) (s : Step) → step_lines Q k (steps ++ s ∷ []) ≡ step_lines Q k steps ++ step_line Q (k + length steps) s ∷ []
@@ -149,4 +149,3 @@ counted_decimal numeral k is e small =
   where
     below : (n k : ℕ) → min n (2 ^ 32) ≡ k → k < 2 ^ 32 → n ≡ k
     below n k e small = omega (arith, e)
-

@@ -1,7 +1,6 @@
 -- Reports as texts: each has one spelling, a text is the spelling of at most one report, or has one first bad line.
-use Rattle.std.proofs.Common.{◌≡◌, ℕ, ◌+◌, List, [], ◌∷◌, ◌++◌, length, ◌⊎◌, inl, inr, refl, sym, ap, ◌∙◌, append_assoc, append-nil}
+use Rattle.std.proofs.Common.{◌≡◌, ℕ, ◌+◌, List, [], ◌∷◌, ◌++◌, length, ◌⊎◌, inl, inr, refl, sym, ap, ◌∙◌}
 use Rattle.text_lines.specs.Lines.{lines}
-use Rattle.text_lines.specs.Strict.{strict_line}
 use Rattle.text_lines.proofs.Readings.{reads_one, whole_not_bad, one_bad, ReadOrBad, no_lines_read_or_bad, lines_read_or_bad}
 use Rattle.path_algebra.specs.declared.Header.{Header}
 use Rattle.header_text.specs.Part.{start as header_start, IsStart, IsFront}

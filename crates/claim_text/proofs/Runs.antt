@@ -1,5 +1,5 @@
 -- Lines of tokens that are read one behind the other, none of which has a line feed in a token.
-use Rattle.std.proofs.Common.{◌≡◌, ◌≢◌, ℕ, false, List, [], ◌∷◌, ◌++◌, map, refl, sym, ap, ◌∙◌, subst}
+use Rattle.std.proofs.Common.{◌≡◌, ℕ, false, List, [], ◌∷◌, ◌++◌, map, refl, sym, subst}
 use Rattle.std.specs.Prelude.{All}
 use Rattle.std.proofs.lemmas.List.{map-append}
 use Rattle.std.proofs.lemmas.List.Elements.{All-nil, All-cons, All-append}
@@ -8,6 +8,7 @@ use Rattle.text_lines.specs.Strict.{strict_line}
 use Rattle.text_lines.specs.Reading.{Reads}
 use Rattle.text_lines.proofs.Readings.{Reads-append}
 use Rattle.text_lines.proofs.StrictLaws.{strict_tokens-strict_line}
+use Rattle.object_lines.proofs.ClearLines.{StandsOutside, space_stands, feed_stands}
 use Rattle.claim_lines.proofs.Clear.{Outside, ClearLine, space, feed}
 use Rattle.claim_text.specs.declared.part.Part.{Part}
 use Rattle.claim_text.specs.Steps.{Takes, TokenStep, is_header_line, StepBy, Step}
@@ -26,10 +27,10 @@ taken Fits spell with x is one = record { item = x; fits = is; spelled = refl; o
 pub run_none : (p q : Part) → q ≡ p → Run p [] q
 run_none p q e = record { reads = e; lacks = All-nil (All (Lacks 10)) }
 
-pub run_line : (p q r : Part) (ts : List (List ℕ)) (ls : List (List (List ℕ))) → ((c : ℕ) → Outside c → ClearLine c ts) → is_header_line p.place (strict_line ts) ≡ false → TokenStep p.place p ts q → Run q ls r → Run p (ts ∷ ls) r
+pub run_line : (p q r : Part) (ts : List (List ℕ)) (ls : List (List (List ℕ))) → ((c : ℕ) → Outside c → StandsOutside c → ClearLine c ts) → is_header_line p.place (strict_line ts) ≡ false → TokenStep p.place p ts q → Run q ls r → Run p (ts ∷ ls) r
 run_line p q r ts ls clear e step more = record {
-  reads = (q, step_of p q ts (clear 32 space) e step, more.reads);
-  lacks = All-cons (All (Lacks 10)) ts ls (clear 10 feed).lacks more.lacks;
+  reads = (q, step_of p q ts (clear 32 space space_stands) e step, more.reads);
+  lacks = All-cons (All (Lacks 10)) ts ls (clear 10 feed feed_stands).lacks more.lacks;
 }
 
 pub run_append : (p q r : Part) (ls ms : List (List (List ℕ))) → Run p ls q → Run q ms r → Run p (ls ++ ms) r

@@ -1,5 +1,5 @@
 -- What holds of the records, modules and maps that have been read of a report, and their lines.
-use Rattle.std.proofs.Common.{◌≡◌, ℕ, zero, suc, ◌+◌, ◌*◌, ◌<◌, ◌≤◌, ◌^◌, List, [], ◌∷◌, ◌++◌, map, length, refl, sym, ap, ◌∙◌, subst, arith, append_assoc, append-nil, lit<}
+use Rattle.std.proofs.Common.{◌≡◌, ℕ, zero, suc, ◌+◌, ◌<◌, ◌^◌, List, [], ◌∷◌, ◌++◌, length, refl, sym, ap, ◌∙◌, subst, arith, append_assoc, append-nil, lit<}
 use Rattle.std.specs.Prelude.{All, take}
 use Rattle.std.proofs.lemmas.List.{length-append}
 use Rattle.std.proofs.lemmas.List.Elements.{All-nil, All-push}
@@ -9,7 +9,6 @@ use Rattle.path_algebra.specs.declared.Header.{Header}
 use Rattle.path_algebra.specs.declared.rules.Rule.{Rule}
 use Rattle.path_algebra.specs.declared.rules.Step.{Step}
 use Rattle.path_algebra.specs.Allowed.{IsAllowed}
-use Rattle.path_algebra.specs.Derivations.{IsNumber}
 use Rattle.header_text.specs.Spelling.{header_lines}
 use Rattle.module_types.specs.declared.Module.{Module}
 use Rattle.module_types.specs.declared.Map.{Map}
@@ -18,13 +17,12 @@ use Rattle.report_types.specs.declared.claims.Claim.{Claim}
 use Rattle.report_types.specs.declared.claims.Claim.TheVariants as claim
 use Rattle.report_types.specs.declared.claims.Record.{Record}
 use Rattle.report_types.specs.declared.reports.End.{End}
-use Rattle.report_types.specs.declared.reports.Report.{Report}
 use Rattle.report_types.specs.Limits.{IsLine}
 use Rattle.report_types.specs.Numbers.{modules_of, maps_of, record_of}
 use Rattle.report_types.specs.BasisBlocks.{IsBasisBlock}
 use Rattle.report_types.specs.ClaimBlocks.{IsClaimBlock}
 use Rattle.report_types.specs.Ends.{IsEnd}
-use Rattle.report_types.specs.Lawful.{IsModuleBlock, IsMapBlock, IsRecord, HasItsPlace, MayBeRecord, IsReport}
+use Rattle.report_types.specs.Lawful.{IsModuleBlock, IsMapBlock, HasItsPlace, MayBeRecord, IsReport}
 use Rattle.claim_lines.specs.Items.{FitsEnd}
 use Rattle.claim_lines.specs.Spelling.{title_line, claim_line, end_line}
 use Rattle.claim_text.specs.Spelling.{at_arrows, at_vertices, module_lines, map_lines, head_of, claim_block, record_lines, records_lines, report_lines}
@@ -183,6 +181,7 @@ module _ (h : Header) (rs : List Record) (ms : List Module) (fs : List Map) (lin
     where
       nought : (n : ℕ) → n ≡ 0 + n
       nought n = omega arith
+
       joined : (hs rs ms fs body : Lines) → (title_line ∷ (hs ++ (rs ++ (ms ++ fs)))) ++ body ≡ title_line ∷ (hs ++ ((rs ++ (ms ++ (fs ++ body))) ++ ([] ++ [])))
       joined hs rs ms fs body = simp (append_assoc, append-nil)
 

@@ -1,5 +1,5 @@
 -- What has been read of a report spells the lines that were read.
-use Rattle.std.proofs.Common.{◌≡◌, ◌≢◌, ℕ, zero, suc, ◌+◌, ◌*◌, ◌<◌, ◌≤◌, ◌^◌, Bool, true, false, List, [], ◌∷◌, ◌++◌, map, length, cond, decimal, inl, inr, refl, sym, ap, ◌∙◌, subst, arith, append_assoc, append-nil, lit<}
+use Rattle.std.proofs.Common.{◌≡◌, ◌≢◌, ℕ, ◌+◌, ◌<◌, ◌≤◌, ◌^◌, Bool, true, false, List, [], ◌∷◌, ◌++◌, map, length, cond, decimal, inl, inr, refl, sym, ap, ◌∙◌, subst, arith, append_assoc, append-nil, lit<}
 use Rattle.std.specs.Prelude.{All, AllPairs}
 use Rattle.std.specs.List.{concat}
 use Rattle.std.proofs.lemmas.Bool.Decides.{eqb_tells}
@@ -36,17 +36,16 @@ use Rattle.report_types.specs.declared.claims.Claim.TheVariants as claim
 use Rattle.report_types.specs.declared.claims.PartClaim.{PartClaim}
 use Rattle.report_types.specs.declared.claims.Record.{Record}
 use Rattle.report_types.specs.declared.reports.End.{End}
-use Rattle.report_types.specs.declared.reports.Report.{Report}
 use Rattle.report_types.specs.Limits.{IsLine}
-use Rattle.report_types.specs.Numbers.{modules_of, maps_of, module_of, claim_of, NamesModule, NamesMap}
+use Rattle.report_types.specs.Numbers.{claim_of, NamesModule, NamesMap}
 use Rattle.report_types.specs.NamedClaims.{IsLocalClaim}
 use Rattle.report_types.specs.BasisBlocks.{AreWords, AreWrittenSteps, AreWrittenRules, IsWrittenRule}
 use Rattle.report_types.specs.ClaimBlocks.{IsClaimBlock, IsPart}
-use Rattle.report_types.specs.Ends.{IsEnd, IsFullEnd}
+use Rattle.report_types.specs.Ends.{IsEnd}
 use Rattle.report_types.specs.Lawful.{IsReport, HasItsPlace, IsMapBlock}
 use Rattle.claim_lines.specs.declared.heads.Head.{Head}
 use Rattle.claim_lines.specs.declared.heads.Head.TheVariants as head
-use Rattle.claim_lines.specs.Spelling.{title_line, claim_line, words_line, word_line, steps_line, step_line, rules_line, rule_line, end_line}
+use Rattle.claim_lines.specs.Spelling.{title_line, claim_line, words_line, word_line, steps_line, rules_line, rule_line, end_line}
 use Rattle.claim_lines.specs.Items.{counted, FitsEnd, ArePartNumbers}
 use Rattle.claim_text.specs.declared.part.Owner.{Owner}
 use Rattle.claim_text.specs.declared.part.Owner.TheVariants as owner
@@ -56,8 +55,8 @@ use Rattle.claim_text.specs.declared.part.Part.{Part}
 use Rattle.claim_text.specs.declared.part.Item.{Item}
 use Rattle.claim_text.specs.declared.part.Item.TheVariants as item
 use Rattle.claim_text.specs.Matrices.{filled}
-use Rattle.claim_text.specs.Spelling.{step_lines, head_of, claim_block, records_lines, report_lines}
-use Rattle.claim_text.specs.Part.{start, report_of, unclaimed, here, counts_of, words_place, steps_place, with_title, with_word_count, with_word, with_step_count, with_step, claimed, at_rules, with_rule_count, with_rule, count_of, name_of, rows_of, columns_of, closed, at_matrices, fill, with_matrix, with_head, with_item}
+use Rattle.claim_text.specs.Spelling.{step_lines, head_of, claim_block, report_lines}
+use Rattle.claim_text.specs.Part.{start, report_of, unclaimed, here, counts_of, words_place, steps_place, with_title, with_word_count, with_word, with_step_count, with_step, claimed, at_rules, count_of, name_of, rows_of, columns_of, closed, at_matrices, fill, with_matrix, with_head, with_item}
 use Rattle.claim_text.specs.Steps.{TokenStep, LexedStep, FrontStep, is_header_line, StepBy, Step as ReportStep, MayEnd, FitsModule, FitsMap, FitsHead, FitsItem, FitsMatrix, item_line}
 use Rattle.claim_text.specs.Judged.{IsJudged}
 use Rattle.claim_text.specs.Texts.{IsTextOf}
@@ -180,7 +179,6 @@ words_few h line words ls s = record { few = s.few; short = s.short; different =
 one_more : (ls : Lines) (t u : List (List ℕ)) (ms : Lines) → t ≡ u → ls ≡ ms → ls ++ t ∷ [] ≡ ms ++ u ∷ []
 one_more ls t u ms e f = ap (λ x. ls ++ x ∷ []) e ∙ ap (λ l. l ++ u ∷ []) f
 
-
 -- ---- behind the rules
 
 -- the lines of a basis
@@ -205,10 +203,10 @@ sound_rules p n ls s = elim (eqb_tells (length p.rules) n) [
         base = sound_basis h p.line p.words p.steps p.rules s.sound.allowed s.sound.is_line s.sound.block;
         lines = s.sound.lines ∙ (ap (λ d. rules_lines h p.line p.words p.steps d p.rules) numeral ∙ basis_lines h p.line p.words p.steps p.rules);
       } in
-      let records : record { line = p.line; modules = []; maps = []; claim = c } ∷ [] ≡ p.records ++ record { line = p.line; modules = p.modules; maps = p.maps; claim = c } ∷ [] =
-      sym (λ i. s.none.no_record i ++ record { line = p.line; modules = s.none.no_module i; maps = s.none.no_map i; claim = c } ∷ []) in
-      subst (λ b. Sound (cond b (claimed p p.line c) (record p { place = place.Rules n })) ls) (sym same.0) (subst (λ rs. Between h rs [] [] ls) records whole)
-  | inr other ↦ subst (λ b. Sound (cond b (claimed p p.line (claim.Basis p.words p.steps p.rules)) (record p { place = place.Rules n })) ls) (sym other.0) record { numeral = s.numeral; counts = s.counts; sound = s.sound; none = record { no_record = s.none.no_record; no_module = s.none.no_module; no_map = s.none.no_map } }
+      let records : record { line = p.line; modules = []; maps = []; claim = c } ∷ [] ≡ p.records ++ record { line = p.line; modules = []; maps = []; claim = c } ∷ [] =
+      sym (λ i. s.none.no_record i ++ record { line = p.line; modules = []; maps = []; claim = c } ∷ []) in
+      subst (λ b. Sound (cond b (claimed (record p { modules = []; maps = [] }) p.line c) (record p { place = place.Rules n })) ls) (sym same.0) (subst (λ rs. Between h rs [] [] ls) records whole)
+  | inr other ↦ subst (λ b. Sound (cond b (claimed (record p { modules = []; maps = [] }) p.line (claim.Basis p.words p.steps p.rules)) (record p { place = place.Rules n })) ls) (sym other.0) record { numeral = s.numeral; counts = s.counts; sound = s.sound; none = record { no_record = s.none.no_record; no_module = s.none.no_module; no_map = s.none.no_map } }
 ]
 
 -- ---- matrices

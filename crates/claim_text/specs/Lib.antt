@@ -5,3 +5,5 @@ pub mod Part
 pub mod Steps
 pub mod Texts
 pub mod Determined
+pub mod Filling
+pub mod Refusals

@@ -9,13 +9,11 @@ use Rattle.path_algebra.specs.declared.rules.Rule.{Rule}
 use Rattle.path_algebra.specs.declared.rules.Step.{Step}
 use Rattle.header_text.specs.Part.{start as header_start}
 use Rattle.header_text.specs.Spelling.{arrow_name, vertex_name}
-use Rattle.module_types.specs.declared.Side.{Side}
 use Rattle.module_types.specs.Algebras.{algebra_at}
 use Rattle.module_types.specs.Readings.{dim_at}
 use Rattle.report_types.specs.declared.claims.Claim.{Claim}
 use Rattle.report_types.specs.declared.claims.Claim.TheVariants as claim
 use Rattle.report_types.specs.declared.claims.Record.{Record}
-use Rattle.report_types.specs.declared.reports.End.{End}
 use Rattle.report_types.specs.declared.reports.End.TheVariants.{Done}
 use Rattle.report_types.specs.declared.reports.Report.{Report}
 use Rattle.report_types.specs.Numbers.{modules_of, maps_of, module_of}
@@ -90,7 +88,7 @@ claimed p line c = record p {
 
 -- among n rules, or behind them
 abbrev pub at_rules : Part → ℕ → Part
-at_rules p n = if length p.rules == n then claimed p p.line (claim.Basis p.words p.steps p.rules) else record p { place = place.Rules n }
+at_rules p n = if length p.rules == n then claimed (record p { modules = []; maps = [] }) p.line (claim.Basis p.words p.steps p.rules) else record p { place = place.Rules n }
 
 abbrev pub with_rule_count : Part → List ℕ → Part
 with_rule_count p numeral = at_rules p (counted numeral)

@@ -3,7 +3,6 @@ use Rattle.std.specs.Prelude.{ℕ, ◌≡◌, ◌≤◌, ◌<◌, ◌^◌, ◌+�
 use Rattle.std.specs.Cmp.Lexicographic.{pointwise}
 use Rattle.std.specs.declared.option.Option.{Option}
 use Rattle.fp_linear.specs.Matrix.{PlainMatrix}
-use Rattle.path_algebra.specs.declared.Header.{Header}
 use Rattle.path_algebra.specs.Derivations.{IsNumber}
 use Rattle.text_lines.specs.Strict.{strict_tokens}
 use Rattle.header_text.specs.Part.{Part as HeaderPart, Step as HeaderStep, MayEnd as HeaderMayEnd}
@@ -91,6 +90,7 @@ pub record FitsHead (p : Part) (line : ℕ) (x : Head) : Type 0 where
 
 -- the last line: directly behind a whole record, or behind the header
 pub record FitsLast (p : Part) (e : End) : Type 0 where
+  pub few : length p.records < 2 ^ 32
   pub no_module : p.modules ≡ []
   pub no_map : p.maps ≡ []
   pub ends : FitsEnd p.front.header (length p.records) e

@@ -1,15 +1,11 @@
-//! Trial.
+//! Reports as texts: their one spelling, and reading them.
 #![tactic(auto)]
 
-ghost use Rattle.std.specs.Prelude.{◌≡◌};
-
+mod items;
+pub mod laws;
+mod objects;
 mod part;
+mod reader;
+mod taking;
 
-pub use part::{Item, Owner, Part, Place};
-
-/// Trial.
-pub fn trial() -> u32
-    ensures { result ≡ 1 }
-{
-    1
-}
+pub use reader::{ReadTextError, read};

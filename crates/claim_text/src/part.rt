@@ -1,11 +1,11 @@
 //! What has been read of a report.
 
 use claim_lines::{Head, Words};
-use header_text::HeaderReader;
 use fp_linear::Matrix;
+use header_text::HeaderReader;
 use module_types::{Map, Module, Side};
 use path_algebra::{Rule, Step};
-use report_types::{End, Record};
+use report_types::{End, Records};
 use seq::Seq;
 
 /// What the matrices of lines belong to: a module of this side, or a map from a module to another.
@@ -41,7 +41,7 @@ pub struct Part {
     pub words: Words,
     pub steps: Seq<Step>,
     pub rules: Seq<Rule>,
-    pub records: Seq<Record>,
+    pub records: Records,
     pub modules: Seq<Module>,
     pub maps: Seq<Map>,
     pub dims: Seq<u32>,
