@@ -4,4 +4,5 @@ pub mod Judged
 pub mod Part
 pub mod Steps
 pub mod Texts
+pub mod Writable
 pub mod Determined

@@ -3,5 +3,7 @@
 
 pub mod laws;
 mod part;
+mod writing;
 
 pub use part::{Item, Owner, Part, Place};
+pub use writing::{push_record, write, write_end, write_header, write_record};
