@@ -1,5 +1,5 @@
 -- Lines of records, written one by one. Records of a report can be written.
-use Rattle.std.proofs.Common.{◌≡◌, ℕ, ◌+◌, ◌<◌, ◌≤◌, ◌^◌, zero, suc, List, [], ◌∷◌, ◌++◌, take, length, get_or, Some, refl, sym, ap, ◌∙◌, subst, append_assoc, append-nil, arith, length-append}
+use Rattle.std.proofs.Common.{◌≡◌, ℕ, ◌+◌, ◌<◌, ◌≤◌, zero, suc, List, [], ◌∷◌, ◌++◌, take, length, get_or, Some, refl, sym, ap, ◌∙◌, subst, append_assoc, append-nil, arith, length-append}
 use Rattle.std.specs.Prelude.{All, slice_get}
 use Rattle.std.proofs.lemmas.List.{take_more, length-take-le, get_or_default}
 use Rattle.std.proofs.lemmas.List.Elements.{All-nil, All-cons, All-weaker, All-get_or}
@@ -15,10 +15,9 @@ use Rattle.quiver_paths.specs.Quiver.{arrow_count}
 use Rattle.report_types.specs.declared.claims.Claim.{Claim}
 use Rattle.report_types.specs.declared.claims.Claim.TheVariants as claim
 use Rattle.report_types.specs.declared.claims.Record.{Record}
-use Rattle.report_types.specs.declared.claims.Translation.{Translation}
 use Rattle.report_types.specs.declared.claims.Translation.TheVariants.{Tau, Transpose, Taui}
 use Rattle.report_types.specs.declared.reports.Report.{Report}
-use Rattle.report_types.specs.ClaimBlocks.{IsClaimBlock, HasTranslateShape}
+use Rattle.report_types.specs.ClaimBlocks.{IsClaimBlock}
 use Rattle.report_types.specs.Lawful.{IsModuleBlock, IsMapBlock, IsRecord, MayBeRecord, IsReport}
 use Rattle.report_types.specs.Numbers.{modules_of, maps_of}
 use Rattle.header_text.specs.Spelling.{header_lines, text_of}
@@ -161,10 +160,10 @@ short_claim h allowed rs (claim.AlmostSplit n e a f g c l phi left middle) is =
 
 pub writable_record : (h : Header) → IsAllowed h → (rs : List Record) (r : Record) → IsRecord h rs r → IsWritable r
 writable_record h allowed rs r is = record {
-    modules = All-weaker (IsModuleBlock h) IsShortModule (short_module h allowed) r.modules is.modules;
-    maps = All-weaker (IsMapBlock h rs) IsShortMap (short_map h allowed rs) r.maps is.maps;
-    claim = short_claim h allowed rs r.claim is.claim;
-  }
+  modules = All-weaker (IsModuleBlock h) IsShortModule (short_module h allowed) r.modules is.modules;
+  maps = All-weaker (IsMapBlock h rs) IsShortMap (short_map h allowed rs) r.maps is.maps;
+  claim = short_claim h allowed rs r.claim is.claim;
+}
 
 all_there : {X : Type 0} (P : X → Type 0) (xs : List X) → ((i : ℕ) (x : X) → slice_get xs i ≡ Some x → P x) → All P xs
 all_there P [] f = All-nil P

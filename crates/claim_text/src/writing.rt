@@ -38,12 +38,7 @@ fn push_gens(out: &mut Vec<u8>, images: &[Seq<u8>]) -> Result<(), AllocError>
 }
 
 /// Adds term k of a resolution, with the rows of its generators.
-fn push_term(
-    out: &mut Vec<u8>,
-    quiver: &Quiver,
-    k: u32,
-    term: &TermRows,
-) -> Result<(), AllocError>
+fn push_term(out: &mut Vec<u8>, quiver: &Quiver, k: u32, term: &TermRows) -> Result<(), AllocError>
     ensures { OnOk result (out.new.items ≡ out.old.items ++ text_of (term_block quiver.now k term.now)) }
 {
     push_term_line(out, quiver, k, term.vertices.as_slice())?;
@@ -169,7 +164,12 @@ fn push_block(
     Ok(())
 }
 
-fn push_local(out: &mut Vec<u8>, ideal: &Matrix, power: u32, residue: Residue) -> Result<(), AllocError>
+fn push_local(
+    out: &mut Vec<u8>,
+    ideal: &Matrix,
+    power: u32,
+    residue: Residue,
+) -> Result<(), AllocError>
     ensures { OnOk result (out.new.items ≡ out.old.items ++ text_of (ideal_line ideal.now.row_count ∷ (map row_line ideal.now.rows ++ (power_line power ∷ residue_line residue ∷ [])))) }
 {
     push_ideal_line(out, ideal.rows())?;

@@ -1,4 +1,4 @@
-use Rattle.std.proofs.Common.{◌≡◌, ◌<◌, ◌+◌, length, take, ap, arith}
+use Rattle.std.proofs.Common.{◌<◌, length, ap, arith}
 use Rattle.report_types.specs.declared.claims.Record.{Record}
 use Rattle.claim_text.proofs.WrittenRecords.{maps_fit, maps_take}
 use Rattle.claim_text.proofs.writing.count_maps.Goals as goal

@@ -1,4 +1,4 @@
-use Rattle.std.proofs.Common.{◌≡◌, ◌<◌, ◌+◌, length, take, ap, arith}
+use Rattle.std.proofs.Common.{◌<◌, length, ap, arith}
 use Rattle.report_types.specs.declared.claims.Record.{Record}
 use Rattle.claim_text.proofs.WrittenRecords.{modules_fit, modules_take}
 use Rattle.claim_text.proofs.writing.count_modules.Goals as goal

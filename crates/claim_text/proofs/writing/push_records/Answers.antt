@@ -1,4 +1,4 @@
-use Rattle.std.proofs.Common.{◌≡◌, ◌<◌, ◌+◌, ◌-◌, length, take, ap, arith}
+use Rattle.std.proofs.Common.{◌<◌, ◌+◌, ◌-◌, length, ap, arith}
 use Rattle.report_types.specs.declared.claims.Record.{Record}
 use Rattle.claim_text.proofs.WrittenRecords.{modules_fit, maps_fit, modules_take, maps_take, record_pushed}
 use Rattle.claim_text.proofs.writing.push_records.Goals as goal
@@ -32,9 +32,11 @@ loop-i-preserved c =
     let count_modules = c.loop-i.invariant.0 in
     let count_maps = c.loop-i.invariant.1 in
     let one = c.len.ensures in
-    let two = c.len-in-loop-i.ensures in
-    (omega (arith, modules, same_modules, count_modules, one), omega (arith, maps, same_maps, count_maps, two),
-    record_pushed c.args.header.now xs i c.loop-i.modules c.loop-i.maps ((i + 1) - 1) r _ _ _ inside c.index-items-i.is count_modules count_maps (omega arith) c.loop-i.invariant.2 c.in_ok-push_record.ensures)
+    let two = c.len-in-loop-i.ensures in (
+      omega (arith, modules, same_modules, count_modules, one),
+      omega (arith, maps, same_maps, count_maps, two),
+      record_pushed c.args.header.now xs i c.loop-i.modules c.loop-i.maps ((i + 1) - 1) r _ _ _ inside c.index-items-i.is count_modules count_maps (omega arith) c.loop-i.invariant.2 c.in_ok-push_record.ensures,
+    )
 
 pub overflow_cast-modules : goal.overflow_cast-modules
 overflow_cast-modules c =

@@ -1,4 +1,4 @@
-use Rattle.std.proofs.Common.{◌≡◌, ◌<◌, ◌+◌, ◌-◌, ◌^◌, List, length, take, get_or, refl, sym, subst, ap, ◌∙◌, arith}
+use Rattle.std.proofs.Common.{◌≡◌, ◌<◌, ◌-◌, ◌^◌, List, length, get_or, refl, sym, subst, ap, ◌∙◌, arith}
 use Rattle.report_types.specs.declared.claims.Record.{Record}
 use Rattle.report_types.specs.Numbers.{modules_of, maps_of}
 use Rattle.claim_text.specs.Writable.{IsWritable}
