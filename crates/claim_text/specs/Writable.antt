@@ -36,7 +36,7 @@ pub record IsWritable (r : Record) : Type 0 where
   pub maps : All IsShortMap r.maps
   pub claim : IsShortClaim r.claim
 
--- claims of a kernel, a cokernel or a radical; of extensions, a translate or an almost split sequence
+-- claims of a kernel, a cokernel or a radical; of extensions or a translate; of an almost split sequence; of a local module or an almost split sequence
 abbrev pub HasShortHead : Claim → Type 0
 HasShortHead (claim.Kernel n f i) = ⊤
 HasShortHead (claim.Cokernel n f p) = ⊤
@@ -46,5 +46,13 @@ HasShortHead c = ⊥
 abbrev pub HasLongHead : Claim → Type 0
 HasLongHead (claim.Ext n a b rows c) = ⊤
 HasLongHead (claim.Translate which n a c rows) = ⊤
-HasLongHead (claim.AlmostSplit n e a f g c l phi left middle) = ⊤
 HasLongHead c = ⊥
+
+abbrev pub IsSequenceClaim : Claim → Type 0
+IsSequenceClaim (claim.AlmostSplit n e a f g c l phi left middle) = ⊤
+IsSequenceClaim c = ⊥
+
+abbrev pub HasCertificate : Claim → Type 0
+HasCertificate (claim.Local m c ideal power residue) = ⊤
+HasCertificate (claim.AlmostSplit n e a f g c l phi left middle) = ⊤
+HasCertificate c = ⊥

@@ -10,7 +10,7 @@ ghost use Rattle.object_lines.specs.Spelling.{row_line, gen_line, ideal_line, po
 ghost use Rattle.claim_lines.specs.declared.heads.Head.TheVariants as head;
 ghost use Rattle.claim_lines.specs.Spelling.{title_line, claim_line, word_line, rule_line};
 ghost use Rattle.claim_text.specs.Spelling.{step_lines, block_lines, term_block, term_lines, module_block, map_block, module_lines, map_lines, at_vertices, head_of, claim_block, record_text, records_lines, report_text, end_text, text_behind};
-ghost use Rattle.claim_text.specs.Writable.{IsShortModule, IsShortMap, IsShortClaim, IsWritable, HasShortHead, HasLongHead};
+ghost use Rattle.claim_text.specs.Writable.{IsShortModule, IsShortMap, IsShortClaim, IsWritable, HasShortHead, HasLongHead, IsSequenceClaim, HasCertificate};
 
 use claim_conditions::Residue;
 use claim_lines::{Head, push_claim_line, push_count, push_end, push_rule, push_step, push_word};
@@ -197,6 +197,35 @@ fn push_sequence(
     Ok(())
 }
 
+/// Adds the lines behind the first of the claim of a local module or of an almost split sequence.
+fn push_certificate(out: &mut Vec<u8>, header: &Header, claim: &Claim) -> Result<(), AllocError>
+    requires short { IsShortClaim claim.now }
+    requires kind { HasCertificate claim.now }
+    ensures { OnOk result (out.new.items ≡ out.old.items ++ text_of (claim_block header.now claim.now)) }
+{
+    match claim {
+        Claim::Local {
+            ideal,
+            power,
+            residue,
+            ..
+        } => push_local(out, ideal, *power, *residue),
+        Claim::AlmostSplit {
+            phi,
+            left_rows,
+            middle_rows,
+            ..
+        } => push_sequence(
+            out,
+            header,
+            phi.as_slice(),
+            left_rows.as_slice(),
+            middle_rows.as_slice(),
+        ),
+        _ => Ok(()),
+    }
+}
+
 /// Adds the lines of a claim behind its first.
 fn push_claim(out: &mut Vec<u8>, header: &Header, claim: &Claim) -> Result<(), AllocError>
     requires { IsShortClaim claim.now }
@@ -217,25 +246,9 @@ fn push_claim(out: &mut Vec<u8>, header: &Header, claim: &Claim) -> Result<(), A
         Claim::Hom { rows, .. } => push_row_lines(out, rows),
         Claim::Resolution { terms, .. } => push_terms(out, &header.quiver, terms.as_slice()),
         Claim::Ext { rows, .. } => push_row_lines(out, rows),
-        Claim::Local {
-            ideal,
-            power,
-            residue,
-            ..
-        } => push_local(out, ideal, *power, *residue),
+        Claim::Local { .. } => push_certificate(out, header, claim),
         Claim::Translate { rows, .. } => push_at_vertices(out, &header.quiver, rows.as_slice()),
-        Claim::AlmostSplit {
-            phi,
-            left_rows,
-            middle_rows,
-            ..
-        } => push_sequence(
-            out,
-            header,
-            phi.as_slice(),
-            left_rows.as_slice(),
-            middle_rows.as_slice(),
-        ),
+        Claim::AlmostSplit { .. } => push_certificate(out, header, claim),
         Claim::Module { .. } => Ok(()),
         Claim::Map { .. } => Ok(()),
         Claim::Kernel { .. } => Ok(()),
@@ -282,7 +295,7 @@ fn short_head(claim: &Claim) -> Head
     }
 }
 
-/// What the first line of a claim says of extensions, a translate or an almost split sequence.
+/// What the first line of a claim says of extensions or a translate.
 fn long_head(claim: &Claim) -> Head
     requires { HasLongHead claim.now }
     ensures { result ≡ head_of claim.now }
@@ -313,6 +326,16 @@ fn long_head(claim: &Claim) -> Head
             a: *a,
             resolution: *resolution,
         },
+        _ => Head::Basis,
+    }
+}
+
+/// What the first line of a claim says of an almost split sequence.
+fn sequence_head(claim: &Claim) -> Head
+    requires { IsSequenceClaim claim.now }
+    ensures { result ≡ head_of claim.now }
+{
+    match claim {
         Claim::AlmostSplit {
             left,
             middle,
@@ -378,7 +401,7 @@ fn first_head(alloc: Global, claim: &Claim) -> Result<Head, AllocError>
         Claim::Radical { .. } => Ok(short_head(claim)),
         Claim::Ext { .. } => Ok(long_head(claim)),
         Claim::Translate { .. } => Ok(long_head(claim)),
-        Claim::AlmostSplit { .. } => Ok(long_head(claim)),
+        Claim::AlmostSplit { .. } => Ok(sequence_head(claim)),
     }
 }
 
