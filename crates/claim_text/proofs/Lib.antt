@@ -13,3 +13,5 @@ pub mod SoundObjects
 pub mod SoundReading
 pub mod DecidedLines
 pub mod ReportLaws
+pub mod WrittenBlocks
+pub mod WrittenRecords

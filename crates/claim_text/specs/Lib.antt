@@ -4,6 +4,7 @@ pub mod Judged
 pub mod Part
 pub mod Steps
 pub mod Texts
+pub mod Writable
 pub mod Determined
 pub mod Filling
 pub mod Refusals

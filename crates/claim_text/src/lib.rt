@@ -9,3 +9,7 @@ mod reader;
 mod taking;
 
 pub use reader::{ReadTextError, read};
+mod writing;
+
+pub use part::{Item, Owner, Part, Place};
+pub use writing::{push_record, write, write_end, write_header, write_record};
