@@ -8,5 +8,6 @@ pub mod Lawful
 pub mod Limits
 pub mod NamedClaims
 pub mod Numbers
+pub mod Places
 pub mod Verdicts
 pub mod WordDimensions

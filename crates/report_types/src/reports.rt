@@ -1,9 +1,8 @@
 //! Reports: the records of a script in their order, and how they end.
 
-use super::claims::Record;
+use super::records::Records;
 use path_algebra::Header;
 use quiver_paths::{Name, Path, Reference};
-use seq::Seq;
 
 /// Why a statement was refused. Numbers that 64 bits do not hold count as 2^64 − 1.
 #[derive(Clone, Debug, Drop, PartialEq, Eq)]
@@ -55,6 +54,6 @@ pub enum End {
 #[derive(Drop)]
 pub struct Report {
     pub header: Header,
-    pub records: Seq<Record>,
+    pub records: Records,
     pub end: End,
 }
