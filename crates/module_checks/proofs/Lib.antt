@@ -8,3 +8,9 @@ pub mod HomRows
 pub mod Squares
 pub mod Walks
 pub mod RelationRows
+pub mod PathImages
+pub mod Places
+pub mod Tests
+pub mod Whole
+pub mod VertexMatrices
+pub mod KernelTests

@@ -5,3 +5,5 @@ pub mod ReducedRows
 pub mod Products
 pub mod RowWalks
 pub mod Room
+pub mod PathImages
+pub mod VertexMatrices

@@ -3,20 +3,36 @@
 #![tactic(auto)]
 
 mod clearing;
+mod column_reduced;
 mod folding;
 mod hom;
 mod homs;
+mod images;
+mod kernels;
+mod long_paths;
 mod maps;
 mod meeting;
+mod modules;
 mod products;
+mod ranks;
 mod reduced;
 mod relations;
 mod spreading;
+mod vertex_matrices;
 mod walking;
+mod zero_products;
 
+pub use column_reduced::is_column_reduced;
 pub use hom::first_failing_hom;
 pub use homs::equations_rank;
+pub use images::fold_images;
+pub use kernels::{first_failing_cokernel, first_failing_kernel};
+pub use long_paths::long_paths_act_as_zero;
 pub use maps::is_homomorphism;
 pub use meeting::all_meet;
+pub use modules::is_module;
+pub use ranks::{have_ranks, rank_of};
 pub use reduced::is_reduced;
 pub use relations::relations_act_as_zero;
+pub use vertex_matrices::{are_column_reduced, are_reduced};
+pub use zero_products::{are_zero_products, is_zero_product};
