@@ -1,1 +1,2 @@
 pub mod FirstClaims
+pub mod Named

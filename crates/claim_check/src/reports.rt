@@ -52,7 +52,7 @@ fn check_claims(alloc: Global, report: &Report) -> Result<Verdict, AllocError>
         words,
         steps,
         rules,
-    } = &report.records[0].claim
+    } = &report.records.as_slice()[0].claim
     else {
         unreachable!()
     };

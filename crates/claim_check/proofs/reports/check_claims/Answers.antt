@@ -6,15 +6,15 @@ use Rattle.claim_check.proofs.reports.check_claims.Goals as goal
 
 pub check_basis-requires-clause-claim : goal.check_basis-requires-clause-claim
 check_basis-requires-clause-claim c =
-    first_block c.args.report.now c.index.result.now c.as_slice.result.now c.as_slice-2.result.now c.as_slice-3.result.now
+    first_block c.args.report.now c.index.result.now c.as_slice-2.result.now c.as_slice-3.result.now c.as_slice-4.result.now
     (first_there c.args.report.now.records c.index.result.now c.requires.some c.index.ensures)
-    (same_basis c.index.result.now.claim _ _ _ _ _ _ c.in-Basis.is c.as_slice.ensures c.as_slice-2.ensures c.as_slice-3.ensures) c.requires.report
+    (same_basis c.index.result.now.claim _ _ _ _ _ _ c.in-Basis.is c.as_slice-2.ensures c.as_slice-3.ensures c.as_slice-4.ensures) c.requires.report
 
 pub returns-in-Err-Fault : goal.returns-in-Err-Fault
 returns-in-Err-Fault c =
     let same : c.clause_of.result ≡ clause_of c.in-Err-Fault.fault = c.clause_of.ensures ∙ ap clause_of c.in-Err-Fault.fault-is in
     subst (IsFirstFailure c.args.report.now 1) (sym same)
-    (first_fails c.args.report.now c.index.result.now c.as_slice.result.now c.as_slice-2.result.now c.as_slice-3.result.now
+    (first_fails c.args.report.now c.index.result.now c.as_slice-2.result.now c.as_slice-3.result.now c.as_slice-4.result.now
     (first_there c.args.report.now.records c.index.result.now c.requires.some c.index.ensures)
-    (same_basis c.index.result.now.claim _ _ _ _ _ _ c.in-Basis.is c.as_slice.ensures c.as_slice-2.ensures c.as_slice-3.ensures)
+    (same_basis c.index.result.now.claim _ _ _ _ _ _ c.in-Basis.is c.as_slice-2.ensures c.as_slice-3.ensures c.as_slice-4.ensures)
     c.in-Err-Fault.fault (c.in-Err-Fault.ensures.fault c.in-Err-Fault.fault (ap Err c.in-Err-Fault.field-0-is)))

@@ -1,0 +1,63 @@
+-- What the format asks of the modules and maps that claims name, over the whole report.
+use Rattle.std.proofs.Common.{ℕ, zero, suc, ◌≡◌, ◌<◌, ◌≤◌, List, [], ◌∷◌, ◌++◌, length, Some, None, refl, sym, ap, ◌∙◌, subst, arith, length-append}
+use Rattle.std.specs.Prelude.{All, take, drop, slice_get}
+use Rattle.std.proofs.lemmas.List.{take-append-drop}
+use Rattle.std.proofs.lemmas.List.Elements.{All-weaker}
+use Rattle.path_algebra.specs.Derivations.{IsNumber}
+use Rattle.path_algebra.specs.declared.Header.{Header}
+use Rattle.bound_algebra.specs.TypedPaths.{quiver_of}
+use Rattle.module_types.specs.declared.Module.{Module}
+use Rattle.module_types.specs.declared.Map.{Map}
+use Rattle.module_types.specs.Shapes.{IsMap}
+use Rattle.report_types.specs.declared.claims.Record.{Record}
+use Rattle.report_types.specs.declared.reports.Report.{Report}
+use Rattle.report_types.specs.Numbers.{modules_of, maps_of, module_of, map_of, record_of, no_module, no_map, NamesModule, NamesMap}
+use Rattle.report_types.specs.Lawful.{IsModuleBlock, IsMapBlock, IsRecord, MayBeRecord, IsReport}
+use Rattle.report_types.proofs.Fronts.{modules_append, maps_append, numbered_all, all_modules, all_maps, module_in_whole, map_in_whole}
+
+-- what is named over the first records is named over all
+pub names_module : (k : ℕ) (rs : List Record) (n : ℕ) → NamesModule (take k rs) n → NamesModule rs n
+names_module k rs n is =
+    let e = ap (λ x. length (modules_of x)) (take-append-drop k rs) in
+    let s = ap length (modules_append (take k rs) (drop k rs)) in
+    let c = length-append (modules_of (take k rs)) (modules_of (drop k rs)) in
+    record { from = is.from; to = let t = is.to in omega (arith, e, s, c, t) }
+
+pub names_map : (k : ℕ) (rs : List Record) (n : ℕ) → NamesMap (take k rs) n → NamesMap rs n
+names_map k rs n is =
+    let e = ap (λ x. length (maps_of x)) (take-append-drop k rs) in
+    let s = ap length (maps_append (take k rs) (drop k rs)) in
+    let c = length-append (maps_of (take k rs)) (maps_of (drop k rs)) in
+    record { from = is.from; to = let t = is.to in omega (arith, e, s, c, t) }
+
+-- a map of the first records is one of all
+pub map_block_in_whole : (h : Header) (k : ℕ) (rs : List Record) (f : Map) → IsMapBlock h (take k rs) f → IsMapBlock h rs f
+map_block_in_whole h k rs f b = record {
+  source = names_module k rs f.source b.source;
+  target = names_module k rs f.target b.target;
+  matrices =
+      subst (λ x. IsMap h.field (quiver_of h.quiver) x (module_of rs f.target) f.matrices) (module_in_whole k rs f.source b.source)
+      (subst (λ y. IsMap h.field (quiver_of h.quiver) (module_of (take k rs) f.source) y f.matrices) (module_in_whole k rs f.target b.target) b.matrices);
+}
+
+module _ (report : Report) (is : IsReport report) where
+  pub record_lawful : (k : ℕ) (r : Record) → record_of report.records k ≡ Some r → IsRecord report.header (take k report.records) r
+  record_lawful k r e = subst (MayBeRecord report.header (take k report.records)) e (is.each k)
+
+  pub record_modules : (k : ℕ) (r : Record) → record_of report.records k ≡ Some r → All (IsModuleBlock report.header) r.modules
+  record_modules k r e = (record_lawful k r e).modules
+
+  pub record_maps : (k : ℕ) (r : Record) → record_of report.records k ≡ Some r → All (IsMapBlock report.header report.records) r.maps
+  record_maps k r e =
+      All-weaker (IsMapBlock report.header (take k report.records)) (IsMapBlock report.header report.records)
+      (λ f b. map_block_in_whole report.header k report.records f b) r.maps (record_lawful k r e).maps
+
+  pub module_lawful : (n : ℕ) → NamesModule report.records n → IsModuleBlock report.header (module_of report.records n)
+  module_lawful n b =
+      numbered_all (IsModuleBlock report.header) no_module (modules_of report.records) n b
+      (all_modules (IsModuleBlock report.header) report.records (λ i r e. record_modules (suc i) r e))
+
+  pub map_lawful : (n : ℕ) → NamesMap report.records n → IsMapBlock report.header report.records (map_of report.records n)
+  map_lawful n b =
+      numbered_all (IsMapBlock report.header report.records) no_map (maps_of report.records) n b
+      (all_maps (IsMapBlock report.header report.records) report.records (λ i r e. record_maps (suc i) r e))
