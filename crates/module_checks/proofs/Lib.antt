@@ -13,4 +13,3 @@ pub mod Places
 pub mod Tests
 pub mod Whole
 pub mod VertexMatrices
-pub mod KernelTests

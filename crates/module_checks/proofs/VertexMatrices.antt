@@ -55,6 +55,16 @@ module _ {q : Gf} {l m n : ℕ} (f : Mat q l m) (g : Mat q m n) (a b : PlainMatr
   unfolding zeros
   zero_of_product e = record { at = λ i u. record { at = λ j v. product_typed f g a b x y i j ∙ ap (λ (h : Mat q l n). h.at i j) e } }
 
+module _ {q : Gf} {l m : ℕ} (f : Mat q l m) (g : Mat q m l) (a b : PlainMatrix) (x : IsPlainOf a f) (y : IsPlainOf b g) where
+  pub product_one : IsUnitProduct q a b a.row_count → f · g ≡ one q l
+  product_one h = Mat-eq_below _ _ (λ i j u v.
+      sym (product_typed f g a b x y i j) ∙ (h.at i (subst (λ n. i < n) (sym x.row_count) u)).at j (subst (λ n. j < n) (sym y.col_count) v) ∙ sym (one-at q l i j u))
+
+  pub one_of_product : f · g ≡ one q l → IsUnitProduct q a b a.row_count
+  one_of_product e = record {
+    at = λ i u. record { at = λ j v. product_typed f g a b x y i j ∙ ap (λ (h : Mat q l l). h.at i j) e ∙ one-at q l i j (subst (λ n. i < n) x.row_count u) };
+  }
+
 module _ {q : Gf} {m n : ℕ} (f : Mat q m n) (a : PlainMatrix) (x : IsPlainOf a f) where
   pub places_read : (place : ℕ → ℕ) → ArePlaces a.row_count a.col_count a.rows a.col_count place → IsCoReduced f place
   places_read place p = record {
@@ -94,7 +104,7 @@ no_columns_reduced f e = (λ i. 0, record {
   after = λ i r l b. absurd (omega arith);
 })
 
-abbrev some_matrix : Gf → PlainMatrix
+abbrev pub some_matrix : Gf → PlainMatrix
 some_matrix q = plain q 0 0 []
 
 module _ {q : Gf} {Q : Quiver} (X Y : Rep q Q) (matrices : List PlainMatrix) (M : AreMatrices q Q.vertices X.dim Y.dim matrices) where
@@ -107,7 +117,7 @@ module _ {q : Gf} {Q : Quiver} (X Y : Rep q Q) (matrices : List PlainMatrix) (M 
   pub member : (v : ℕ) (p : PlainMatrix) → v < Q.vertices → IsPlainOf (slice_index_or matrices v p) (family_of X Y matrices v)
   member v p l = plain_of_shape q (X.dim v) (Y.dim v) v matrices p (in_list v l) (M.each v p l)
 
-  rows_are : (v : ℕ) (p : PlainMatrix) → v < Q.vertices → rows_at matrices v ≡ (slice_index_or matrices v p).rows
+  pub rows_are : (v : ℕ) (p : PlainMatrix) → v < Q.vertices → rows_at matrices v ≡ (slice_index_or matrices v p).rows
   rows_are v p l = get_or-map (λ (m : PlainMatrix). m.rows) matrices v p [] (in_list v l)
 
   grid_at : (v : ℕ) (p : PlainMatrix) → v < Q.vertices → IsGrid q (X.dim v) (Y.dim v) (slice_index_or matrices v p).rows
@@ -187,8 +197,26 @@ module _ {q : Gf} {Q : Quiver} (X Y Z : Rep q Q) (first second : List PlainMatri
         zero_of_product (family_of X Y first v) (family_of Y Z second v) _ _ (member X Y first F v a l) (member Y Z second G v b l) (h v);
   }
 
+module _ {q : Gf} {Q : Quiver} (X Y : Rep q Q) (first second : List PlainMatrix) (F : AreMatrices q Q.vertices X.dim Y.dim first) (G : AreMatrices q Q.vertices Y.dim X.dim second) where
+  pub compose_to_one : AreUnitProducts q (length first) first second → ComposeToOne X Y (family_of X Y first) (family_of Y X second)
+  compose_to_one h w = elim (cases_lt w Q.vertices) [
+    | inl l ↦ product_one (family_of X Y first w) (family_of Y X second w) _ _ (member X Y first F w (some_matrix q) l) (member Y X second G w (some_matrix q) l)
+        (h.each w (some_matrix q) (some_matrix q) (in_list X Y first F w l))
+    | inr l ↦ Mat-eq_below _ _ (λ i j a b. absurd (let e = X.past w l in omega arith))
+  ]
+
+  pub one_of_composed : ComposeToOne X Y (family_of X Y first) (family_of Y X second) → AreUnitProducts q (length first) first second
+  one_of_composed h = record {
+    each = λ v a b k.
+        let l = is_vertex X Y first F v k in
+        one_of_product (family_of X Y first v) (family_of Y X second v) _ _ (member X Y first F v a l) (member Y X second G v b l) (h v);
+  }
+
+swapped : (x y z : ℕ) → x + y ≡ z → y + x ≡ z
+swapped x y z e = omega (arith, e)
+
 -- Dimensions and ranks at the vertices.
-module _ {q : Gf} {Q : Quiver} (n a b : Module) (f : List PlainMatrix) (F : AreMatrices q Q.vertices (dim_at Q a.dims) (dim_at Q b.dims) f) where
+module _ {q : Gf} (Q : Quiver) (n a b : Module) (f : List PlainMatrix) (F : AreMatrices q Q.vertices (dim_at Q a.dims) (dim_at Q b.dims) f) where
   abbrev part : Rep q Q
   part = rep_of q Q n
 
@@ -213,9 +241,6 @@ module _ {q : Gf} {Q : Quiver} (n a b : Module) (f : List PlainMatrix) (F : AreM
         let l = is_vertex from to f F v k in
         ap₂ (λ x y. x + y) (sym (dim_at-is Q n.dims v l)) (rank_there from to f F v p l) ∙ h v ∙ dim_at-is Q a.dims v l;
   }
-
-  swapped : (x y z : ℕ) → x + y ≡ z → y + x ≡ z
-  swapped x y z e = omega (arith, e)
 
   pub cokernel_size : HaveRanks (length f) n.dims b.dims f → HasCokernelSize from to part (family_of from to f)
   cokernel_size h w = elim (cases_lt w Q.vertices) [
@@ -309,7 +334,7 @@ places-more m n rows k least p h b is = record {
 
 pub places_fail : (a : PlainMatrix) (k least : ℕ) → k < a.col_count → HavePlaces a.row_count a.col_count a.rows k least
     → ((p : ℕ) → least ≤ p → IsPlaceOf a.row_count a.col_count a.rows k p → ⊥) → IsColumnReduced a → ⊥
-places_fail a k least l h no c = no (c.place k) (elim (cases_eq k 0) [
+places_fail a k least l h none c = none (c.place k) (elim (cases_eq k 0) [
   | inl e ↦ let f = h.first e in omega (arith, f)
   | inr d ↦
       let last : suc (k - 1) ≡ k = omega arith in
@@ -358,6 +383,19 @@ zero_products_more q xs ys k a b l m e f h z = record {
 pub zero_products_there : (q : Gf) (xs ys : List PlainMatrix) (n k : ℕ) (a b : PlainMatrix) → k < n → a ≡ slice_index_or xs k a → b ≡ slice_index_or ys k b → AreZeroProducts q n xs ys → IsZeroProduct q a b a.row_count
 zero_products_there q xs ys n k a b l e f h = subst (λ (x : PlainMatrix). IsZeroProduct q x b x.row_count) (sym e) (subst (λ y. IsZeroProduct q (slice_index_or xs k a) y (slice_index_or xs k a).row_count) (sym f) (h.each k a b l))
 
+pub unit_products_more : (q : Gf) (xs ys : List PlainMatrix) (k : ℕ) (a b : PlainMatrix) → k < length xs → k < length ys → a ≡ slice_index_or xs k a → b ≡ slice_index_or ys k b
+    → AreUnitProducts q k xs ys → IsUnitProduct q a b a.row_count → AreUnitProducts q (k + 1) xs ys
+unit_products_more q xs ys k a b l m e f h z = record {
+  each = λ v p r c. elim (cases_eq v k) [
+    | inl same ↦ subst (λ v. IsUnitProduct q (slice_index_or xs v p) (slice_index_or ys v r) (slice_index_or xs v p).row_count) (sym same)
+        (subst (λ (x : PlainMatrix). IsUnitProduct q x (slice_index_or ys k r) x.row_count) (sym (item_same xs k a p l e)) (subst (λ y. IsUnitProduct q a y a.row_count) (sym (item_same ys k b r m f)) z))
+    | inr other ↦ h.each v p r (omega arith)
+  ];
+}
+
+pub unit_products_there : (q : Gf) (xs ys : List PlainMatrix) (n k : ℕ) (a b : PlainMatrix) → k < n → a ≡ slice_index_or xs k a → b ≡ slice_index_or ys k b → AreUnitProducts q n xs ys → IsUnitProduct q a b a.row_count
+unit_products_there q xs ys n k a b l e f h = subst (λ (x : PlainMatrix). IsUnitProduct q x b x.row_count) (sym e) (subst (λ y. IsUnitProduct q (slice_index_or xs k a) y (slice_index_or xs k a).row_count) (sym f) (h.each k a b l))
+
 pub product_fits : (q : Gf) (xs ys : List PlainMatrix) (k : ℕ) (a b : PlainMatrix) → k < length xs → a ≡ slice_index_or xs k a → b ≡ slice_index_or ys k b → HaveProducts q xs ys → HaveProduct q a b
 product_fits q xs ys k a b l e f h = subst (λ x. HaveProduct q x b) (sym e) (subst (λ y. HaveProduct q (slice_index_or xs k a) y) (sym f) (h.each k a b l))
 
@@ -391,7 +429,7 @@ copied_more a e v s l d h = record {
 pub copied_elements : (a : PlainMatrix) (e : ℕ) (s : List ℕ) → IsMatrix a → length s ≤ e → HoldsEntries a e s → AreElements a.field s
 copied_elements a e s is l h = record {
   small = λ k. elim (cases_lt k (length s)) [
-    | inl b ↦ rw h.at k (omega (arith, l, b)) (is.grid.small (k / a.col_count) (k % a.col_count))
-    | inr b ↦ rw get_or_past s k 0 b (order-pos a.field)
+    | inl b ↦ rw (h.at k (omega (arith, l, b))) (is.grid.small (k / a.col_count) (k % a.col_count))
+    | inr b ↦ rw (get_or_past s k 0 b) (order-pos a.field)
   ];
 }

@@ -6,7 +6,7 @@ ghost use Rattle.fp_linear.specs.Meeting.{IsClearFrom};
 ghost use Rattle.module_checks.specs.RowWalks.{AreAllZero};
 
 /// Writes zeros.
-pub(crate) fn clear(entries: &mut [u8])
+pub fn clear(entries: &mut [u8])
     ensures clear { IsClearFrom 0 entries.new }
     ensures elements { (q : Gf) → AreElements q entries.new }
 {

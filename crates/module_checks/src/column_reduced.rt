@@ -24,7 +24,7 @@ fn last_row(matrix: &Matrix, k: u32) -> Option<u32>
 }
 
 /// Entry `j` of the unit row `k`.
-pub(crate) fn unit_entry(k: u32, j: u32) -> u8
+pub fn unit_entry(k: u32, j: u32) -> u8
     ensures { result ≡ delta k j }
 {
     if k == j {

@@ -10,7 +10,7 @@ use crate::spreading::{add_row, subtract_column};
 use fp_linear::{Field, Matrix, echelon_rows};
 
 /// Makes room for a row behind the first `used` of `rows` rows: where there is none, they are brought into reduced row form.
-pub(crate) fn make_room(
+pub fn make_room(
     field: Field,
     unknowns: u32,
     rows: u32,

@@ -8,7 +8,6 @@ mod folding;
 mod hom;
 mod homs;
 mod images;
-mod kernels;
 mod long_paths;
 mod maps;
 mod meeting;
@@ -22,11 +21,12 @@ mod vertex_matrices;
 mod walking;
 mod zero_products;
 
-pub use column_reduced::is_column_reduced;
+pub use clearing::clear;
+pub use column_reduced::{is_column_reduced, unit_entry};
+pub use folding::{fold_arrow, make_room};
 pub use hom::first_failing_hom;
 pub use homs::equations_rank;
 pub use images::fold_images;
-pub use kernels::{first_failing_cokernel, first_failing_kernel};
 pub use long_paths::long_paths_act_as_zero;
 pub use maps::is_homomorphism;
 pub use meeting::all_meet;
@@ -34,5 +34,8 @@ pub use modules::is_module;
 pub use ranks::{have_ranks, rank_of};
 pub use reduced::is_reduced;
 pub use relations::relations_act_as_zero;
+pub use spreading::add_row;
 pub use vertex_matrices::{are_column_reduced, are_reduced};
-pub use zero_products::{are_zero_products, is_zero_product};
+pub use zero_products::{
+    are_unit_products, are_zero_products, is_unit_product, is_zero_product,
+};

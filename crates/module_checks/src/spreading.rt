@@ -20,7 +20,7 @@ pub(crate) fn add_at(field: Field, at: usize, value: u8, entries: &mut [u8])
 }
 
 /// Adds row `i` of the matrix, its entries `step` places apart, from place `first` on of the `count` numbers from `start` on.
-pub(crate) fn add_row(
+pub fn add_row(
     field: Field,
     matrix: &Matrix,
     i: u32,

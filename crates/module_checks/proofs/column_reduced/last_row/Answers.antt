@@ -8,10 +8,8 @@ pub returns-then-row-k-ne0 : goal.returns-then-row-k-ne0
 returns-then-row-k-ne0 c =
     let at = c.rows-count.result - (c.loop-t.t + 1) in (
       omega (arith, c.loop-t-test.true, c.rows-count.ensures.count),
-      (
-        λ e. c.if-row-k-ne0.true (ap (λ r. get_or r c.args.k 0) c.row.ensures.row ∙ row-entry c.args.matrix.now.rows at c.args.k ∙ e),
-        λ i a b. c.loop-t.invariant i (omega (arith, c.loop-t-test.true, c.rows-count.ensures.count, a)) b,
-      ),
+      λ e. c.if-row-k-ne0.true (ap (λ r. get_or r c.args.k 0) c.row.ensures.row ∙ row-entry c.args.matrix.now.rows at c.args.k ∙ e),
+      λ i a b. c.loop-t.invariant i (omega (arith, c.loop-t-test.true, c.rows-count.ensures.count, a)) b,
     )
 
 pub loop-t-preserved : goal.loop-t-preserved

@@ -1,12 +1,12 @@
 use Rattle.std.proofs.Common.{refl}
-use Rattle.module_checks.proofs.KernelTests.{dims_fit, column_reduced_yes, column_reduced_no, room_there, cokernel_yes, cokernel_no, products_there, zero_yes, zero_no}
-use Rattle.module_checks.proofs.kernels.first_failing_cokernel.Goals as goal
+use Rattle.map_checks.proofs.KernelTests.{dims_fit, column_reduced_yes, column_reduced_no, room_there, cokernel_yes, cokernel_no, products_there, zero_yes, zero_no}
+use Rattle.map_checks.proofs.kernels.first_failing_cokernel.Goals as goal
 
 pub returns-then-not-are_column_reduced : goal.returns-then-not-are_column_reduced
 returns-then-not-are_column_reduced c = (1, (tt, (refl, λ r. c.if-not-are_column_reduced.ensures (column_reduced_no c.args.header.now c.args.a.now c.args.b.now c.args.n.now c.args.p.now c.requires.p r))))
 
 pub are_zero_products-requires : goal.are_zero_products-requires
-are_zero_products-requires c = products_there c.args.header.now c.args.a.now c.args.a.now c.args.b.now c.args.f.now c.requires.f c.args.n.now c.args.p.now c.requires.p
+are_zero_products-requires c = record { fit = products_there c.args.header.now c.args.a.now c.args.a.now c.args.b.now c.args.f.now c.requires.f c.args.n.now c.args.p.now c.requires.p }
 
 pub returns-then-not-are_zero_products : goal.returns-then-not-are_zero_products
 returns-then-not-are_zero_products c =

@@ -25,10 +25,10 @@ module _ (h : Header) (a : Module) where
   pub dims_fit : (m x y : Module) (f : List PlainMatrix) → IsModule h.field (algebra_at m.side h).quiver m → IsMap h.field (quiver_of h.quiver) x y f → length m.dims ≡ length f
   dims_fit m x y f M F = M.counted ∙ vertices_of_side m.side h ∙ sym F.counted
 
-  small_dim : (m : Module) → dimension m.dims ≤ 256 → (v : ℕ) → (read_beside h a m).dim v ≤ 256
+  pub small_dim : (m : Module) → dimension m.dims ≤ 256 → (v : ℕ) → (read_beside h a m).dim v ≤ 256
   small_dim m s v = let d = dim_within (algebra_at a.side h).quiver m.dims v in omega (arith, d, s)
 
-  beside : (x y : Module) (f : List PlainMatrix) → IsMap h.field (quiver_of h.quiver) x y f → AreMatrices h.field (algebra_at a.side h).quiver.vertices (read_beside h a x).dim (read_beside h a y).dim f
+  pub beside : (x y : Module) (f : List PlainMatrix) → IsMap h.field (quiver_of h.quiver) x y f → AreMatrices h.field (algebra_at a.side h).quiver.vertices (read_beside h a x).dim (read_beside h a y).dim f
   beside x y f F = map_beside h a.side x y f F
 
   module _ (x y : Module) (f : List PlainMatrix) (F : IsMap h.field (quiver_of h.quiver) x y f) where
@@ -48,16 +48,16 @@ module _ (h : Header) (a : Module) where
     room_there entries pivots s t e p = room_for (read_beside h a x) (read_beside h a y) f (beside x y f F) entries pivots (small_dim x s) (small_dim y t) e p
 
     pub kernel_yes : (n : Module) → HaveRanks (length f) n.dims x.dims f → HasKernelSize (read_beside h a n) (read_beside h a x) (read_beside h a y) (family_of (read_beside h a x) (read_beside h a y) f)
-    kernel_yes n = kernel_size n x y f (beside x y f F)
+    kernel_yes n = kernel_size (algebra_at a.side h).quiver n x y f (beside x y f F)
 
     pub kernel_no : (n : Module) → HasKernelSize (read_beside h a n) (read_beside h a x) (read_beside h a y) (family_of (read_beside h a x) (read_beside h a y) f) → HaveRanks (length f) n.dims x.dims f
-    kernel_no n = ranks_of_kernel n x y f (beside x y f F)
+    kernel_no n = ranks_of_kernel (algebra_at a.side h).quiver n x y f (beside x y f F)
 
     pub cokernel_yes : (n : Module) → HaveRanks (length f) n.dims y.dims f → HasCokernelSize (read_beside h a x) (read_beside h a y) (read_beside h a n) (family_of (read_beside h a x) (read_beside h a y) f)
-    cokernel_yes n = cokernel_size n x y f (beside x y f F)
+    cokernel_yes n = cokernel_size (algebra_at a.side h).quiver n x y f (beside x y f F)
 
     pub cokernel_no : (n : Module) → HasCokernelSize (read_beside h a x) (read_beside h a y) (read_beside h a n) (family_of (read_beside h a x) (read_beside h a y) f) → HaveRanks (length f) n.dims y.dims f
-    cokernel_no n = ranks_of_cokernel n x y f (beside x y f F)
+    cokernel_no n = ranks_of_cokernel (algebra_at a.side h).quiver n x y f (beside x y f F)
 
     module _ (z : Module) (g : List PlainMatrix) (G : IsMap h.field (quiver_of h.quiver) y z g) where
       pub products_there : HaveProducts h.field f g

@@ -6,11 +6,9 @@ ghost use Rattle.module_types.specs.Shapes.{IsModule, IsMap};
 ghost use Rattle.claim_conditions.specs.Conditions.{IsAnswer};
 ghost use Rattle.claim_conditions.specs.KernelConditions.{kernel_conditions, cokernel_conditions};
 
-use crate::ranks::have_ranks;
-use crate::vertex_matrices::{are_column_reduced, are_reduced};
-use crate::zero_products::are_zero_products;
 use claim_conditions::Clause;
 use fp_linear::Matrix;
+use module_checks::{are_column_reduced, are_reduced, are_zero_products, have_ranks};
 use module_types::Module;
 use path_algebra::Header;
 use seq::Seq;

@@ -1,12 +1,12 @@
 use Rattle.std.proofs.Common.{refl}
-use Rattle.module_checks.proofs.KernelTests.{dims_fit, reduced_yes, reduced_no, room_there, kernel_yes, kernel_no, products_there, zero_yes, zero_no}
-use Rattle.module_checks.proofs.kernels.first_failing_kernel.Goals as goal
+use Rattle.map_checks.proofs.KernelTests.{dims_fit, reduced_yes, reduced_no, room_there, kernel_yes, kernel_no, products_there, zero_yes, zero_no}
+use Rattle.map_checks.proofs.kernels.first_failing_kernel.Goals as goal
 
 pub returns-then-not-are_reduced : goal.returns-then-not-are_reduced
 returns-then-not-are_reduced c = (1, (tt, (refl, λ r. c.if-not-are_reduced.ensures (reduced_no c.args.header.now c.args.a.now c.args.n.now c.args.a.now c.args.i.now c.requires.i r))))
 
 pub are_zero_products-requires : goal.are_zero_products-requires
-are_zero_products-requires c = products_there c.args.header.now c.args.a.now c.args.n.now c.args.a.now c.args.i.now c.requires.i c.args.b.now c.args.f.now c.requires.f
+are_zero_products-requires c = record { fit = products_there c.args.header.now c.args.a.now c.args.n.now c.args.a.now c.args.i.now c.requires.i c.args.b.now c.args.f.now c.requires.f }
 
 pub returns-then-not-are_zero_products : goal.returns-then-not-are_zero_products
 returns-then-not-are_zero_products c =

@@ -1,0 +1,3 @@
+pub mod KernelTests
+pub mod ArrowRows
+pub mod RadicalTests
