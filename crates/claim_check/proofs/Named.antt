@@ -1,5 +1,5 @@
 -- What the format asks of the modules and maps that claims name, over the whole report.
-use Rattle.std.proofs.Common.{ℕ, zero, suc, ◌≡◌, ◌<◌, ◌≤◌, List, [], ◌∷◌, ◌++◌, length, Some, None, refl, sym, ap, ◌∙◌, subst, arith, length-append}
+use Rattle.std.proofs.Common.{ℕ, zero, suc, ◌≡◌, ◌<◌, ◌≤◌, List, [], ◌∷◌, ◌++◌, length, get_or, Some, None, refl, sym, ap, ◌∙◌, subst, arith, length-append}
 use Rattle.std.specs.Prelude.{All, take, drop, slice_get}
 use Rattle.std.proofs.lemmas.List.{take-append-drop}
 use Rattle.std.proofs.lemmas.List.Elements.{All-weaker}
@@ -8,7 +8,10 @@ use Rattle.path_algebra.specs.declared.Header.{Header}
 use Rattle.bound_algebra.specs.TypedPaths.{quiver_of}
 use Rattle.module_types.specs.declared.Module.{Module}
 use Rattle.module_types.specs.declared.Map.{Map}
+use Rattle.module_types.specs.declared.Side.{Side}
+use Rattle.module_types.specs.Algebras.{algebra_at}
 use Rattle.module_types.specs.Shapes.{IsMap}
+use Rattle.module_checks.proofs.VertexMatrices.{map_beside}
 use Rattle.report_types.specs.declared.claims.Record.{Record}
 use Rattle.report_types.specs.declared.reports.Report.{Report}
 use Rattle.report_types.specs.Numbers.{modules_of, maps_of, module_of, map_of, record_of, no_module, no_map, NamesModule, NamesMap}
@@ -61,3 +64,24 @@ module _ (report : Report) (is : IsReport report) where
   map_lawful n b =
       numbered_all (IsMapBlock report.header report.records) no_map (maps_of report.records) n b
       (all_maps (IsMapBlock report.header report.records) report.records (λ i r e. record_maps (suc i) r e))
+
+  pub module_there : (n : ℕ) (x : Module) → NamesModule report.records n → x ≡ module_of report.records n → IsModuleBlock report.header x
+  module_there n x b same = subst (IsModuleBlock report.header) (sym same) (module_lawful n b)
+
+-- the matrices of a map, on the side of a module
+pub map_shapes : (h : Header) (rs : List Record) (f : Map) (side : Side) (x y : Module) → IsMapBlock h rs f → x ≡ module_of rs f.source → y ≡ module_of rs f.target
+    → IsMap h.field (algebra_at side h).quiver x y f.matrices
+map_shapes h rs f side x y b p r =
+    map_beside h side x y f.matrices
+    (subst (λ m. IsMap h.field (quiver_of h.quiver) m y f.matrices) (sym p)
+    (subst (λ m. IsMap h.field (quiver_of h.quiver) (module_of rs f.source) m f.matrices) (sym r) b.matrices))
+
+pub map_there : (h : Header) (rs : List Record) (f : Map) (x y : Module) → IsMapBlock h rs f → x ≡ module_of rs f.source → y ≡ module_of rs f.target
+    → IsMap h.field (quiver_of h.quiver) x y f.matrices
+map_there h rs f x y b p r =
+    subst (λ m. IsMap h.field (quiver_of h.quiver) m y f.matrices) (sym p)
+    (subst (λ m. IsMap h.field (quiver_of h.quiver) (module_of rs f.source) m f.matrices) (sym r) b.matrices)
+
+-- all items hold, place by place
+abbrev pub AllBelow : {X : Type 0} → (X → Type 0) → List X → ℕ → Type 0
+AllBelow {X} P xs n = (i : ℕ) (d : X) → i < n → P (get_or xs i d)

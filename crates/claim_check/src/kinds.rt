@@ -13,7 +13,8 @@ ghost use Rattle.claim_check.specs.Room.{HasRoom};
 use crate::objects::{map_at, module_at};
 use claim_conditions::Clause;
 use fp_linear::Matrix;
-use module_checks::{first_failing_cokernel, first_failing_hom, first_failing_kernel};
+use map_checks::{first_failing_cokernel, first_failing_kernel};
+use module_checks::first_failing_hom;
 use report_types::Report;
 
 /// Whether the map f goes from module a to module b, by their numbers.
