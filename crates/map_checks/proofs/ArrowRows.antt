@@ -1,20 +1,20 @@
 -- The span of the rows of the arrows to a vertex, by the columns that they take to zero.
-use Rattle.std.proofs.Common.{ℕ, ◌<◌, ◌≤◌, ◌≡◌, ◌≢◌, ◌+◌, ◌*◌, ◌/◌, ◌%◌, ◌⊎◌, List, [], length, take, get_or, refl, sym, ap, ap₂, ◌∙◌, inl, inr, arith, subst, add-one, mod-lt, mod-eq_of_lt, div-add-mod', mul-le-mul_right}
+use Rattle.std.proofs.Common.{ℕ, ◌<◌, ◌≤◌, ◌≡◌, ◌≢◌, ◌+◌, ◌*◌, ◌/◌, ◌%◌, ◌⊎◌, List, length, take, get_or, refl, sym, ap, ap₂, ◌∙◌, inl, inr, arith, subst, mod-lt, mod-eq_of_lt, div-add-mod', mul-le-mul_right}
 use Rattle.std.specs.Bool.{⊤}
 use Rattle.std.specs.Prelude.{slice_index_or}
 use Rattle.std.proofs.lemmas.Bool.{cases_lt, cases_eq}
 use Rattle.std.proofs.lemmas.Nat.{mul-add-lt, div-mul-add, mod-mul-add}
 use Rattle.linear_algebra.specs.Field.{Gf, add, mul}
 use Rattle.linear_algebra.specs.FieldLaws.{zero_add}
-use Rattle.linear_algebra.specs.Sums.{sum_to, sum_below, sum-ext, sum-same}
+use Rattle.linear_algebra.specs.Sums.{sum_to, sum_below, sum-ext}
 use Rattle.linear_algebra.specs.Matrix.{Mat, Column, Mat-eq_below, zeros, one, ◌·◌}
 use Rattle.linear_algebra.specs.MatrixLaws.{mul_assoc_mat, mul_zeros, zeros_mul, one_mul_mat}
-use Rattle.linear_algebra.specs.BlockFamilies.{total, stack_all}
+use Rattle.linear_algebra.specs.BlockFamilies.{total}
 use Rattle.linear_algebra.specs.Parts.{row}
 use Rattle.linear_algebra.specs.PartsLaws.{made-at, row-mul, row_zeros}
-use Rattle.linear_algebra.specs.Rank.{IsInSpan, IsSeparate}
+use Rattle.linear_algebra.specs.Rank.{IsInSpan}
 use Rattle.linear_algebra.specs.Rows.{IsGrid, entry, rows_of}
-use Rattle.linear_algebra.specs.Reduced.{IsReduced, ReducesTo, pivot}
+use Rattle.linear_algebra.specs.Reduced.{IsReduced, pivot}
 use Rattle.linear_algebra.specs.RowForm.{IsRowReduced}
 use Rattle.linear_algebra.specs.Typed.{as_mat}
 use Rattle.linear_algebra.proofs.Typed.{as_mat-entry, same_span_forth, same_span_back}
@@ -25,7 +25,7 @@ use Rattle.linear_algebra.proofs.Solving.{in_span_trans, zeros_not_one}
 use Rattle.linear_algebra.proofs.Subspaces.{span_or_beyond}
 use Rattle.fp_linear.specs.Matrix.{PlainMatrix, IsMatrix}
 use Rattle.fp_linear.specs.Slices.{AreElements}
-use Rattle.fp_linear.specs.Meeting.{dot, Meets, IsClearFrom}
+use Rattle.fp_linear.specs.Meeting.{dot, IsClearFrom}
 use Rattle.fp_linear.proofs.Cells.{IsGrid-rows_of, cell-entry, cell-is}
 use Rattle.fp_linear.proofs.Meeting.{row_step, column_of, Meets-typed, Meets-from_typed}
 use Rattle.representations.specs.Quiver.{Quiver}
@@ -37,7 +37,7 @@ use Rattle.claim_conditions.specs.RadicalConditions.{SpanArrows}
 use Rattle.module_checks.specs.Spreading.{IsSpread, in_steps}
 use Rattle.module_checks.specs.Commuting.{AsksMore}
 use Rattle.module_checks.specs.VertexMatrices.{HoldsEntries}
-use Rattle.map_checks.specs.ArrowRows.{row_dot, RowMet, RowsMet, ArrowMet, AskArrows, HasArrowForm, SpansAt, SpanUpTo, FitsVertex, FitVertices}
+use Rattle.map_checks.specs.ArrowRows.{row_dot, RowMet, RowsMet, ArrowMet, AskArrows, HasArrowForm, SpansAt, SpanUpTo, FitVertices}
 use Rattle.module_checks.proofs.SpreadDots.{dot_clear}
 use Rattle.module_checks.proofs.Steps.{spread_others, spread_clear}
 use Rattle.module_checks.proofs.HomRank.{IsPlainOf}
@@ -222,7 +222,7 @@ module _ {q : Gf} {Q : Quiver} (X : Rep q Q) where
         same_entry : r ≡ a.row_count → HoldsEntries a (a.row_count * a.col_count) new → (i j : ℕ) → i < r → j < X.dim w → reduced_rows.at i j ≡ (as_mat q a.row_count (X.dim w) a.rows).at i j
         same_entry e h i j l k =
             entry_of_form i j l k
-            ∙ h.at (i * X.dim w + j) (let p = mul-add-lt i (X.dim w) j a.row_count (subst (λ z. i < z) e l) k in subst (λ n. i * X.dim w + j < a.row_count * n) (sym columns) p)
+            ∙ h.at (i * X.dim w + j) (let p = mul-add-lt i (X.dim w) j a.row_count (subst (λ z. i < z) e l) k in let p' : i * X.dim w + j < a.row_count * X.dim w = omega (arith, p) in subst (λ n. i * X.dim w + j < a.row_count * n) (sym columns) p')
             ∙ ap (λ n. entry a.rows ((i * X.dim w + j) / n) ((i * X.dim w + j) % n)) columns
             ∙ ap₂ (entry a.rows) (div-mul-add i (X.dim w) j k) (mod-mul-add i (X.dim w) j k)
             ∙ sym (as_mat-entry q a.row_count (X.dim w) a.rows grid i j)

@@ -9,14 +9,14 @@ use Rattle.module_types.specs.declared.Side.{Side}
 use Rattle.module_types.specs.declared.Side.TheVariants.{Right, Left}
 use Rattle.module_types.specs.declared.Module.{Module}
 use Rattle.module_types.specs.Algebras.{algebra_at}
-use Rattle.module_types.specs.Readings.{dim_at, read, read_beside, family_of}
+use Rattle.module_types.specs.Readings.{read_beside, family_of}
 use Rattle.module_types.specs.Shapes.{IsModule, IsMap, AreMatrices, dimension}
 use Rattle.claim_conditions.specs.Families.{AreReduced, AreCoReduced, ComposeToZero, HasKernelSize, HasCokernelSize}
 use Rattle.module_checks.specs.VertexMatrices.{AreAllReduced, AreAllColumnReduced, HaveProducts, AreZeroProducts, HaveRoom, HaveRanks}
 use Rattle.module_checks.proofs.Walks.{dim_within}
 use Rattle.module_checks.proofs.VertexMatrices.{map_beside, reduced_family, family_reduced, column_reduced_family, family_column_reduced, have_products, compose_to_zero, zero_of_composed, kernel_size, ranks_of_kernel, cokernel_size, ranks_of_cokernel, room_for}
 
-vertices_of_side : (side : Side) (h : Header) → (algebra_at side h).quiver.vertices ≡ vertex_count h.quiver
+pub vertices_of_side : (side : Side) (h : Header) → (algebra_at side h).quiver.vertices ≡ vertex_count h.quiver
 vertices_of_side Right h = refl
 vertices_of_side Left h = refl
 

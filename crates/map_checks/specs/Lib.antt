@@ -1,1 +1,3 @@
 pub mod ArrowRows
+pub mod BlockParts
+pub mod PartLists

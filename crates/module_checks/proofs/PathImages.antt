@@ -1,13 +1,13 @@
 -- What comes along paths, one arrow after another.
-use Rattle.std.proofs.Common.{ℕ, zero, suc, ◌<◌, ◌≤◌, ◌≡◌, ◌≢◌, ◌+◌, ◌*◌, ◌-◌, ◌/◌, ◌%◌, List, length, get_or, set, get_or-set_same, get_or-set_other, cond, ltb, lt-ltb, le-ltb, refl, sym, ap, ap₂, ◌∙◌, inl, inr, arith, subst, add-one, mod-lt, mod-eq_of_lt, div-add-mod', mul-le-mul_right}
+use Rattle.std.proofs.Common.{ℕ, suc, ◌<◌, ◌≤◌, ◌≡◌, ◌≢◌, ◌+◌, ◌*◌, ◌-◌, ◌/◌, ◌%◌, List, length, get_or, set, get_or-set_same, get_or-set_other, cond, ltb, lt-ltb, le-ltb, refl, sym, ap, ap₂, ◌∙◌, inl, inr, arith, subst, add-one, mod-lt, mod-eq_of_lt, div-add-mod', mul-le-mul_right}
 use Rattle.std.specs.Bool.{⊤}
 use Rattle.std.proofs.lemmas.Bool.{cases_lt, cases_eq, cond-true, cond-false}
 use Rattle.std.proofs.lemmas.List.{get_or_past}
-use Rattle.linear_algebra.specs.Field.{Gf, add, mul, order}
-use Rattle.linear_algebra.specs.FieldLaws.{add_zero, zero_add, add_below, mul_zero, zero_mul, one_mul, mul_one, mul_below, mul_assoc}
-use Rattle.linear_algebra.specs.Sums.{sum_to, sum-none, sum-suc, sum-same, sum-ext, sum-zeros, sum_below, sum-split, sum-mul, mul-sum, sum-swap, sum-single}
+use Rattle.linear_algebra.specs.Field.{Gf, add, mul}
+use Rattle.linear_algebra.specs.FieldLaws.{add_zero, zero_add, mul_zero, zero_mul, one_mul, mul_one, mul_below, mul_assoc}
+use Rattle.linear_algebra.specs.Sums.{sum_to, sum-suc, sum-same, sum-ext, sum-zeros, sum_below, sum-split, sum-mul, mul-sum, sum-swap, sum-single}
 use Rattle.linear_algebra.specs.Rows.{entry}
-use Rattle.linear_algebra.specs.Matrix.{Mat, Column, Mat-eq_below, delta, delta-same, delta-other, zeros, one, ◌·◌}
+use Rattle.linear_algebra.specs.Matrix.{Column, Mat-eq_below, delta, delta-same, delta-other, zeros, ◌·◌}
 use Rattle.linear_algebra.specs.BlockFamilies.{total}
 use Rattle.linear_algebra.specs.MatrixLaws.{one-at, transpose-at, mul_assoc_mat, one_mul_mat, mul_zeros, zeros_mul}
 use Rattle.linear_algebra.specs.Parts.{unit, unit_column}
@@ -205,10 +205,12 @@ module _ {q : Gf} {Q : Quiver} (X : Rep q Q) where
 
         back : (w : ℕ) (y : Column q (X.dim w)) → EndsPaths X (suc k) w y → MeetsAt X n m new w y
         back w y h = elim (cases_lt w Q.vertices) [
-          | inl l ↦ record { rows = λ r b. sym (dot_placed n w (r * n) new y (fits w l)) ∙ (asked.back (placed w y) (λ a r c d. elim (cases_eq (Q.target a) w) [
+          | inl l ↦ record {
+            rows = λ r b. sym (dot_placed n w (r * n) new y (fits w l)) ∙ (asked.back (placed w y) (λ a r c d. elim (cases_eq (Q.target a) w) [
               | inl e ↦ at_target a w e y h r d (omega (arith, few))
               | inr e ↦ image_elsewhere n a r w old y e
-            ])).rows r b }
+            ])).rows r b;
+          }
           | inr l ↦ record { rows = λ r b. sum-zeros q (X.dim w) (λ i. mul q (get_or new (r * n + total w X.dim + i) 0) (y.at i 0)) (λ i c. absurd (let e = X.past w l in omega arith)) }
         ]
 
@@ -250,10 +252,12 @@ module _ {q : Gf} {Q : Quiver} (X : Rep q Q) where
     pub paths_none : HoldPaths X 0 n m s
     unfolding zeros
     paths_none = record {
-      forth = λ w y h. record { along = λ p e. no_arrows p e y (elim (cases_lt w Q.vertices) [
-        | inl l ↦ zero_column w y l h
-        | inr l ↦ Mat-eq_below _ _ (λ i j a b. absurd (let e = X.past w l in omega arith))
-      ]) };
+      forth = λ w y h. record {
+        along = λ p e. no_arrows p e y (elim (cases_lt w Q.vertices) [
+          | inl l ↦ zero_column w y l h
+          | inr l ↦ Mat-eq_below _ _ (λ i j a b. absurd (let e = X.past w l in omega arith))
+        ]);
+      };
       back = λ w y h. record { rows = λ r l. sum-zeros q (X.dim w) _ (λ i b. ap (λ (y : Column q (X.dim w)). mul q (get_or s (r * n + total w X.dim + i) 0) (y.at i 0)) (column_of_ends w y h) ∙ mul_zero q _) };
     }
 

@@ -6,18 +6,16 @@ use Rattle.std.proofs.lemmas.Nat.{mul-add-lt, div-mul-add, mod-mul-add}
 use Rattle.std.proofs.lemmas.List.{get_or-map, get_or_default, get_or_past}
 use Rattle.linear_algebra.specs.Field.{Gf}
 use Rattle.linear_algebra.specs.FieldLaws.{order-pos}
-
-use Rattle.linear_algebra.specs.Matrix.{Mat, Mat-eq_below, delta, delta-same, delta-other, zeros, one, ◌·◌}
+use Rattle.linear_algebra.specs.Matrix.{Mat, Mat-eq_below, delta-same, zeros, one, ◌·◌}
 use Rattle.linear_algebra.specs.MatrixLaws.{one-at}
 use Rattle.linear_algebra.specs.Rows.{IsGrid, entry, rows_of}
 use Rattle.linear_algebra.specs.Reduced.{IsReduced, ReducesTo, pivot}
 use Rattle.linear_algebra.specs.RowForm.{IsRowReduced, IsCoReduced}
 use Rattle.linear_algebra.specs.Ranks.{rank}
-use Rattle.linear_algebra.specs.Typed.{as_mat, grid_of}
+use Rattle.linear_algebra.specs.Typed.{as_mat}
 use Rattle.linear_algebra.proofs.Typed.{as_mat-entry, grid_of-as_mat}
 use Rattle.linear_algebra.proofs.RowFormUnique.{row_reduced-as_mat, grid_of-reduced}
 use Rattle.linear_algebra.proofs.RankExists.{rank_factorisation}
-use Rattle.linear_algebra.proofs.Dimension.{rank_is}
 use Rattle.linear_algebra.proofs.Ranks.{rank_at_most_rows, rank_at_most_columns}
 use Rattle.fp_linear.specs.Matrix.{PlainMatrix, IsMatrix, plain}
 use Rattle.fp_linear.specs.Slices.{AreElements}
@@ -32,13 +30,11 @@ use Rattle.module_types.specs.declared.Side.TheVariants.{Right, Left}
 use Rattle.module_types.specs.declared.Module.{Module}
 use Rattle.module_types.specs.Algebras.{algebra_at}
 use Rattle.module_types.specs.Readings.{rows_at, dim_at, rep_of, family_of}
-use Rattle.module_types.specs.Shapes.{HasShape, AreMatrices, IsMap, IsModule, dimension, most_dimension}
+use Rattle.module_types.specs.Shapes.{AreMatrices, IsMap}
 use Rattle.claim_conditions.specs.Families.{AreReduced, AreCoReduced, ComposeToZero, ComposeToOne, HasKernelSize, HasCokernelSize}
-use Rattle.module_checks.specs.Products.{product_entry}
-use Rattle.module_checks.specs.VertexMatrices.{AreAllReduced, IsPlaceOf, ArePlaces, HavePlaces, IsColumnReduced, AreAllColumnReduced, IsZeroInProductRow, IsZeroProduct, IsUnitInProductRow, IsUnitProduct, HaveProduct, HaveProducts, AreZeroProducts, AreUnitProducts, HoldsEntries, rank_of_plain, HaveRoom, HaveRanks}
+use Rattle.module_checks.specs.VertexMatrices.{AreAllReduced, IsPlaceOf, ArePlaces, HavePlaces, IsColumnReduced, AreAllColumnReduced, IsZeroProduct, IsUnitProduct, HaveProduct, HaveProducts, AreZeroProducts, AreUnitProducts, HoldsEntries, rank_of_plain, HaveRoom, HaveRanks}
 use Rattle.module_checks.proofs.HomRank.{IsPlainOf, plain_of_shape, dim_at-is}
 use Rattle.module_checks.proofs.Squares.{product_typed}
-use Rattle.module_checks.proofs.Walks.{dim_within}
 
 -- A map has the same shapes over the quiver of each side.
 pub map_beside : (h : Header) (side : Side) (a b : Module) (matrices : List PlainMatrix) → IsMap h.field (quiver_of h.quiver) a b matrices → IsMap h.field (algebra_at side h).quiver a b matrices
@@ -88,21 +84,27 @@ module _ {q : Gf} {m n : ℕ} (f : Mat q m n) (a : PlainMatrix) (x : IsPlainOf a
   }
 
 no_rows_reduced : {q : Gf} {m n : ℕ} (f : Mat q m n) → m ≡ 0 → (p : ℕ → ℕ) × IsRowReduced f p
-no_rows_reduced f e = (λ i. 0, record {
-  inside = λ i l. absurd (omega arith);
-  one = λ i l. absurd (omega arith);
-  before = λ i j l k. absurd (omega arith);
-  further = λ i k l b. absurd (omega arith);
-  cleared = λ i k l b d. absurd (omega arith);
-})
+no_rows_reduced f e = (
+  λ i. 0,
+  record {
+    inside = λ i l. absurd (omega arith);
+    one = λ i l. absurd (omega arith);
+    before = λ i j l k. absurd (omega arith);
+    further = λ i k l b. absurd (omega arith);
+    cleared = λ i k l b d. absurd (omega arith);
+  },
+)
 
 no_columns_reduced : {q : Gf} {m n : ℕ} (f : Mat q m n) → n ≡ 0 → (p : ℕ → ℕ) × IsCoReduced f p
-no_columns_reduced f e = (λ i. 0, record {
-  inside = λ i l. absurd (omega arith);
-  unit = λ i k l b. absurd (omega arith);
-  further = λ i k l b. absurd (omega arith);
-  after = λ i r l b. absurd (omega arith);
-})
+no_columns_reduced f e = (
+  λ i. 0,
+  record {
+    inside = λ i l. absurd (omega arith);
+    unit = λ i k l b. absurd (omega arith);
+    further = λ i k l b. absurd (omega arith);
+    after = λ i r l b. absurd (omega arith);
+  },
+)
 
 abbrev pub some_matrix : Gf → PlainMatrix
 some_matrix q = plain q 0 0 []
@@ -137,13 +139,15 @@ module _ {q : Gf} {Q : Quiver} (X Y : Rep q Q) (matrices : List PlainMatrix) (M 
   ]
 
   pub family_reduced : AreReduced X Y (family_of X Y matrices) → AreAllReduced (length matrices) matrices
-  family_reduced h = record { each = λ v p k.
-      let l = is_vertex v k in
-      let a = slice_index_or matrices v p in
-      let s = M.each v p l in
-      let here = subst (λ (r : List (List ℕ)). (p : ℕ → ℕ) × IsRowReduced (as_mat q (X.dim v) (Y.dim v) r) p) (rows_are v p l) (h v) in
-      subst (λ n. IsReduced n a.rows) (sym s.col_count)
-      (subst (IsReduced (Y.dim v)) (grid_of-as_mat q (X.dim v) (Y.dim v) a.rows (grid_at v p l)) (grid_of-reduced (as_mat q (X.dim v) (Y.dim v) a.rows) here.0 here.1)) }
+  family_reduced h = record {
+    each = λ v p k.
+        let l = is_vertex v k in
+        let a = slice_index_or matrices v p in
+        let s = M.each v p l in
+        let here = subst (λ (r : List (List ℕ)). (p : ℕ → ℕ) × IsRowReduced (as_mat q (X.dim v) (Y.dim v) r) p) (rows_are v p l) (h v) in
+        subst (λ n. IsReduced n a.rows) (sym s.col_count)
+        (subst (IsReduced (Y.dim v)) (grid_of-as_mat q (X.dim v) (Y.dim v) a.rows (grid_at v p l)) (grid_of-reduced (as_mat q (X.dim v) (Y.dim v) a.rows) here.0 here.1));
+  }
 
   pub column_reduced_family : AreAllColumnReduced (length matrices) matrices → AreCoReduced X Y (family_of X Y matrices)
   column_reduced_family h w = elim (cases_lt w Q.vertices) [

@@ -4,7 +4,7 @@ use Rattle.std.specs.Prelude.{ℕ, ◌<◌, ◌≤◌, ◌≡◌, ◌+◌, ◌*�
 use Rattle.linear_algebra.specs.Field.{Gf, mul}
 use Rattle.linear_algebra.specs.Sums.{sum_to}
 use Rattle.linear_algebra.specs.Rows.{entry}
-use Rattle.linear_algebra.specs.Matrix.{Mat, Column, delta, zeros, ◌·◌}
+use Rattle.linear_algebra.specs.Matrix.{Column, delta, zeros, ◌·◌}
 use Rattle.linear_algebra.specs.BlockFamilies.{total}
 use Rattle.fp_linear.specs.Matrix.{PlainMatrix}
 use Rattle.fp_linear.specs.Meeting.{Meets}

@@ -28,7 +28,7 @@ pub use hom::first_failing_hom;
 pub use homs::equations_rank;
 pub use images::fold_images;
 pub use long_paths::long_paths_act_as_zero;
-pub use maps::is_homomorphism;
+pub use maps::{is_homomorphism, same_side};
 pub use meeting::all_meet;
 pub use modules::is_module;
 pub use ranks::{have_ranks, rank_of};
@@ -36,6 +36,4 @@ pub use reduced::is_reduced;
 pub use relations::relations_act_as_zero;
 pub use spreading::add_row;
 pub use vertex_matrices::{are_column_reduced, are_reduced};
-pub use zero_products::{
-    are_unit_products, are_zero_products, is_unit_product, is_zero_product,
-};
+pub use zero_products::{are_unit_products, are_zero_products, is_unit_product, is_zero_product};

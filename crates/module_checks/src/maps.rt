@@ -11,7 +11,8 @@ use module_types::{Module, Side, source_at, target_at};
 use path_algebra::Header;
 use seq::Seq;
 
-pub(crate) fn same_side(a: Side, b: Side) -> bool
+/// Whether the sides are one.
+pub fn same_side(a: Side, b: Side) -> bool
     ensures { MatchBool result (a ≡ b) (¬ (a ≡ b)) }
 {
     a == b

@@ -1,4 +1,4 @@
-use Rattle.std.proofs.Common.{◌≡◌, ◌<◌, sym, ◌∙◌, arith, subst}
+use Rattle.std.proofs.Common.{◌≡◌, sym, ◌∙◌, arith, subst}
 use Rattle.quiver_paths.specs.Quiver.{arrow_count}
 use Rattle.fp_linear.proofs.Meeting.{rank_fits}
 use Rattle.module_types.specs.Algebras.{algebra_at}

@@ -1,4 +1,4 @@
-use Rattle.std.proofs.Common.{◌≡◌, ◌/◌, ◌%◌, sym, ap, ◌∙◌, get_or}
+use Rattle.std.proofs.Common.{◌/◌, ◌%◌, sym, ap, ◌∙◌, get_or}
 use Rattle.linear_algebra.specs.Rows.{entry}
 use Rattle.linear_algebra.proofs.Rows.{row-entry}
 use Rattle.map_checks.proofs.ArrowRows.{held_more}

@@ -1,4 +1,4 @@
-use Rattle.std.proofs.Common.{◌≡◌, ◌≤◌, ◌+◌, ◌*◌, sym, ◌∙◌, arith, mul-le-mul_right}
+use Rattle.std.proofs.Common.{◌≤◌, ◌+◌, ◌*◌, sym, ◌∙◌, arith, mul-le-mul_right}
 use Rattle.module_types.specs.Readings.{read}
 use Rattle.map_checks.proofs.ArrowRows.{spans_at_yes, rank_at, entries_at}
 use Rattle.map_checks.proofs.radicals.spans_at.Goals as goal

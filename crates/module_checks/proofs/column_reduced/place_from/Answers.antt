@@ -1,4 +1,4 @@
-use Rattle.std.proofs.Common.{◌≡◌, ◌<◌, subst, arith}
+use Rattle.std.proofs.Common.{◌≡◌, subst, arith}
 use Rattle.linear_algebra.specs.Rows.{entry}
 use Rattle.linear_algebra.specs.Matrix.{delta}
 use Rattle.module_checks.proofs.VertexMatrices.{place_is_last, no_place}

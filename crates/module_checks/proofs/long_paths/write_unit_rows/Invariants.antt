@@ -1,4 +1,3 @@
-use Rattle.std.proofs.Common.{ℕ}
 use Rattle.linear_algebra.specs.Field.{Gf}
 use Rattle.fp_linear.specs.Slices.{AreElements}
 use Rattle.module_checks.proofs.PathImages.{AreUnitsUpTo}

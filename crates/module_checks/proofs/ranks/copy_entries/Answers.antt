@@ -1,5 +1,4 @@
-use Rattle.std.proofs.Common.{◌≡◌, ◌/◌, ◌%◌, sym, ap, ap₂, ◌∙◌, arith, get_or}
-use Rattle.std.specs.Prelude.{slice_index_or, []}
+use Rattle.std.proofs.Common.{◌/◌, ◌%◌, ap, ◌∙◌, get_or}
 use Rattle.linear_algebra.specs.Rows.{entry}
 use Rattle.linear_algebra.proofs.Rows.{row-entry}
 use Rattle.module_checks.proofs.VertexMatrices.{copied_more}

@@ -1,5 +1,3 @@
-use Rattle.fp_linear.specs.Slices.{AreElements}
-use Rattle.std.proofs.Common.{ℕ, ◌<◌, ◌≡◌, ◌/◌, ◌%◌}
 use Rattle.module_checks.specs.VertexMatrices.{HoldsEntries}
 use Rattle.module_checks.proofs.ranks.copy_entries.Given as goal
 
