@@ -1,7 +1,8 @@
 -- What the format asks of the modules and maps that claims name, over the whole report.
-use Rattle.std.proofs.Common.{ℕ, zero, suc, ◌≡◌, ◌<◌, ◌≤◌, List, [], ◌∷◌, ◌++◌, length, get_or, Some, None, refl, sym, ap, ◌∙◌, subst, arith, length-append}
-use Rattle.std.specs.Prelude.{All, take, drop, slice_get}
-use Rattle.std.proofs.lemmas.List.{take-append-drop}
+use Rattle.std.proofs.Common.{ℕ, zero, suc, ◌≡◌, ◌+◌, ◌<◌, ◌≤◌, List, [], ◌∷◌, ◌++◌, length, get_or, Some, None, inl, inr, refl, sym, ap, ◌∙◌, subst, arith, length-append}
+use Rattle.std.specs.Prelude.{All, take, drop, map, slice_get}
+use Rattle.std.proofs.lemmas.Bool.{cases_lt}
+use Rattle.std.proofs.lemmas.List.{take-append-drop, take-take, get_or_default}
 use Rattle.std.proofs.lemmas.List.Elements.{All-weaker}
 use Rattle.path_algebra.specs.Derivations.{IsNumber}
 use Rattle.path_algebra.specs.declared.Header.{Header}
@@ -12,11 +13,15 @@ use Rattle.module_types.specs.declared.Side.{Side}
 use Rattle.module_types.specs.Algebras.{algebra_at}
 use Rattle.module_types.specs.Shapes.{IsMap}
 use Rattle.module_checks.proofs.VertexMatrices.{map_beside}
+use Rattle.claim_conditions.specs.declared.Clause.TheVariants as clause
+use Rattle.claim_conditions.specs.Conditions.{IsAnswer}
+use Rattle.claim_conditions.specs.Modules.{ModuleHolds, MapHolds, PrintedMap, object_conditions}
 use Rattle.report_types.specs.declared.claims.Record.{Record}
 use Rattle.report_types.specs.declared.reports.Report.{Report}
-use Rattle.report_types.specs.Numbers.{modules_of, maps_of, module_of, map_of, record_of, no_module, no_map, NamesModule, NamesMap}
+use Rattle.report_types.specs.Numbers.{modules_of, maps_of, module_of, map_of, record_of, printed, no_module, no_map, NamesModule, NamesMap}
+use Rattle.report_types.specs.Holding.{IsHomomorphism}
 use Rattle.report_types.specs.Lawful.{IsModuleBlock, IsMapBlock, IsRecord, MayBeRecord, IsReport}
-use Rattle.report_types.proofs.Fronts.{modules_append, maps_append, numbered_all, all_modules, all_maps, module_in_whole, map_in_whole}
+use Rattle.report_types.proofs.Fronts.{modules_append, maps_append, numbered_all, all_modules, all_maps, front_record, module_in_whole, map_in_whole, all_map, all_of_map}
 
 -- what is named over the first records is named over all
 pub names_module : (k : ℕ) (rs : List Record) (n : ℕ) → NamesModule (take k rs) n → NamesModule rs n
@@ -85,3 +90,33 @@ map_there h rs f x y b p r =
 -- all items hold, place by place
 abbrev pub AllBelow : {X : Type 0} → (X → Type 0) → List X → ℕ → Type 0
 AllBelow {X} P xs n = (i : ℕ) (d : X) → i < n → P (get_or xs i d)
+
+pub all_more : {X : Type 0} (P : X → Type 0) (xs : List X) (n : ℕ) (x : X) → AllBelow P xs n → n < length xs → x ≡ get_or xs n x → P x → AllBelow P xs (n + 1)
+all_more P xs n x below inside is holds i d l = elim (cases_lt i n) [
+  | inl less ↦ below i d less
+  | inr more ↦ let e : n ≡ i = omega (arith, l, more) in subst (λ k. P (get_or xs k d)) e (subst P (is ∙ get_or_default xs n x d inside) holds)
+]
+
+-- the objects of a record
+module _ (h : Header) (rs : List Record) (modules : List Module) (maps : List Map) where
+  pub not_modules : ¬ All (ModuleHolds h) modules → IsAnswer (object_conditions h modules (map (printed rs) maps)) (Some clause.Relations)
+  not_modules fails = (0, (refl, fails))
+
+  pub not_maps : All (ModuleHolds h) modules → ¬ All (IsHomomorphism h rs) maps → IsAnswer (object_conditions h modules (map (printed rs) maps)) (Some clause.Commutes)
+  not_maps a fails = (1, (a, (refl, λ b. fails (all_of_map (λ (f : PrintedMap). MapHolds h f.source f.target f.matrices) (printed rs) maps b))))
+
+  pub all_objects : All (ModuleHolds h) modules → All (IsHomomorphism h rs) maps → IsAnswer (object_conditions h modules (map (printed rs) maps)) None
+  all_objects a b = (a, (all_map (λ (f : PrintedMap). MapHolds h f.source f.target f.matrices) (printed rs) maps b, tt))
+
+-- over the first records
+module _ (report : Report) (is : IsReport report) where
+  pub map_at_front : (k n : ℕ) → NamesMap (take k report.records) n → IsMapBlock report.header (take k report.records) (map_of (take k report.records) n)
+  map_at_front k n b =
+      let h = report.header in
+      let front = take k report.records in
+      numbered_all (IsMapBlock h front) no_map (maps_of front) n b
+      (all_maps (IsMapBlock h front) front (λ i r e.
+          let s = front_record k report.records i r e in
+          All-weaker (IsMapBlock h (take (suc i) report.records)) (IsMapBlock h front)
+          (λ f x. map_block_in_whole h (suc i) front f (subst (λ fr. IsMapBlock h fr f) (sym (take-take (suc i) k report.records s.0)) x)) r.maps
+          (record_lawful report is (suc i) r s.1).maps))

@@ -11,6 +11,7 @@ ghost use Rattle.claim_check.specs.Room.{HasRoom};
 
 use crate::kinds::{
     first_failing_cokernel_claim, first_failing_hom_claim, first_failing_kernel_claim,
+    first_failing_radical_claim,
 };
 use crate::objects::first_failing_object;
 use alg_table::Table;
@@ -23,7 +24,8 @@ use std::alloc::{AllocError, Global};
 pub fn scratch_for(alloc: Global, _table: &Table, _report: &Report) -> Result<Scratch, AllocError>
     ensures { IfOk result (λ s. HasRoom s.bytes.items s.numbers.items) }
 {
-    Scratch::reserve(alloc, 2049, 2_098_176)
+    let scratch = Scratch::reserve(alloc, 2049, 2_098_176)?;
+    Ok(scratch)
 }
 
 /// The first condition on a claim that fails, of those of its kind.
@@ -54,6 +56,11 @@ fn first_failing_of_kind(
             f,
             projection,
         } => first_failing_cokernel_claim(report, *cokernel, *f, *projection, bytes, numbers),
+        Claim::Radical {
+            radical,
+            a,
+            inclusion,
+        } => first_failing_radical_claim(report, *radical, *a, *inclusion, bytes, numbers),
         _ => unreachable!(),
     }
 }

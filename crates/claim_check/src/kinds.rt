@@ -5,7 +5,7 @@ ghost use Rattle.claim_conditions.specs.Conditions.{IsAnswer};
 ghost use Rattle.claim_conditions.specs.Modules.{Sides};
 ghost use Rattle.report_types.specs.declared.claims.Claim.TheVariants as claim;
 ghost use Rattle.report_types.specs.Numbers.{module_of, map_of, NamesModule, NamesMap};
-ghost use Rattle.report_types.specs.ClaimBlocks.{IsHomBlock, IsKernelBlock};
+ghost use Rattle.report_types.specs.ClaimBlocks.{IsHomBlock, IsKernelBlock, IsRadicalBlock};
 ghost use Rattle.report_types.specs.Conditions.{Goes, claim_conditions};
 ghost use Rattle.report_types.specs.Lawful.{IsReport};
 ghost use Rattle.claim_check.specs.Room.{HasRoom};
@@ -13,7 +13,7 @@ ghost use Rattle.claim_check.specs.Room.{HasRoom};
 use crate::objects::{map_at, module_at};
 use claim_conditions::Clause;
 use fp_linear::Matrix;
-use map_checks::{first_failing_cokernel, first_failing_kernel};
+use map_checks::{first_failing_cokernel, first_failing_kernel, first_failing_radical};
 use module_checks::first_failing_hom;
 use report_types::Report;
 
@@ -122,6 +122,35 @@ pub(crate) fn first_failing_cokernel_claim(
         target,
         &map.matrices,
         &projection.matrices,
+        bytes,
+        numbers,
+    )
+}
+
+pub(crate) fn first_failing_radical_claim(
+    report: &Report,
+    n: u32,
+    a: u32,
+    i: u32,
+    bytes: &mut [u8],
+    numbers: &mut [u32],
+) -> Option<Clause>
+    requires report { IsReport report.now }
+    requires block { IsRadicalBlock report.now.header report.now.records n a i }
+    requires room { HasRoom bytes.old numbers.old }
+    ensures { (T : Sides report.now.header) → IsAnswer (claim_conditions report.now.header T report.now.records (claim.Radical n a i)) result }
+{
+    if !goes(report, i, n, a) {
+        return Some(Clause::Objects);
+    }
+    let radical = module_at(report, n);
+    let whole = module_at(report, a);
+    let inclusion = map_at(report, i);
+    first_failing_radical(
+        &report.header,
+        radical,
+        whole,
+        &inclusion.matrices,
         bytes,
         numbers,
     )
