@@ -1,6 +1,6 @@
 -- The first claim of a report: its numbers and shapes, and its conditions.
-use Rattle.std.proofs.Common.{ℕ, zero, suc, ◌≡◌, ◌<◌, List, Some, length, refl, sym, subst, arith}
-use Rattle.std.specs.Prelude.{◌++◌, take}
+use Rattle.std.proofs.Common.{ℕ, zero, suc, ◌≡◌, ◌<◌, ◌≤◌, List, [], ◌∷◌, Some, None, length, refl, sym, ap, ◌∙◌, subst, arith}
+use Rattle.std.specs.Prelude.{Option, All, ◌++◌, take, slice_index_or}
 use Rattle.std.proofs.lemmas.List.Elements.{All-weaker}
 use Rattle.quiver_paths.specs.Path.{IsPath}
 use Rattle.path_algebra.specs.Words.{IsShortPath}
@@ -12,16 +12,18 @@ use Rattle.path_algebra.specs.declared.rules.Step.{Step}
 use Rattle.path_algebra.specs.declared.rules.BasisFault.{BasisFault}
 use Rattle.path_algebra.specs.declared.rules.BasisFault.TheVariants as fault
 use Rattle.path_algebra.specs.BasisClauses.{IsBasisClaim, IsFirstFault}
+use Rattle.claim_conditions.specs.declared.Clause.{Clause}
 use Rattle.claim_conditions.specs.Conditions.{IsFirstFailing}
+use Rattle.claim_conditions.specs.Modules.{Sides}
 use Rattle.report_types.specs.declared.claims.Claim.{Claim}
-use Rattle.report_types.specs.declared.claims.Claim.TheVariants.{Basis}
+use Rattle.report_types.specs.declared.claims.Claim.TheVariants.{Basis, Module, Map, Hom, Kernel, Cokernel, Radical, Resolution, Ext, Local, Decomposition, Translate, AlmostSplit}
 use Rattle.report_types.specs.declared.claims.Record.{Record}
 use Rattle.report_types.specs.declared.reports.Report.{Report}
 use Rattle.report_types.specs.BasisBlocks.{IsBasisBlock, IsWrittenRule}
 use Rattle.report_types.specs.BasisClaims.{basis_conditions}
 use Rattle.report_types.specs.ClaimBlocks.{IsClaimBlock}
-use Rattle.report_types.specs.Conditions.{conditions, claim_conditions, before_claim}
-use Rattle.report_types.specs.Lawful.{IsRecord, IsReport, MayBeRecord}
+use Rattle.report_types.specs.Conditions.{conditions, claim_conditions, before_claim, conditions_of}
+use Rattle.report_types.specs.Lawful.{HasItsPlace, IsRecord, IsReport, MayBeRecord}
 use Rattle.report_types.specs.Numbers.{record_of}
 use Rattle.report_types.specs.Verdicts.{sides_by, ConditionsHold, IsFirstFailure}
 use Rattle.claim_check.specs.ClaimVerdicts.{clause_of}
@@ -41,7 +43,11 @@ none_before : (report : Report) (j : ℕ) → j < 1 → ConditionsHold report j
 none_before report zero l = λ n. tt
 none_before report (suc j) l = absurd (omega (arith, l))
 
--- the claim by lists that are those of its own
+-- the first record, where there is one
+pub first_there : (rs : List Record) (first : Record) → 0 < length rs → first ≡ slice_index_or rs 0 first → record_of rs 1 ≡ Some first
+first_there [] first some same = absurd (omega (arith, some))
+first_there (r ∷ rs) first some same = ap Some (sym same)
+
 pub same_basis : (c : Claim) (words ws : List Path) (steps ss : List Step) (rules rs : List Rule) → c ≡ Basis words steps rules → ws ≡ words → ss ≡ steps → rs ≡ rules
     → c ≡ Basis ws ss rs
 same_basis c words ws steps ss rules rs is a b d = cc
@@ -67,3 +73,29 @@ module _ (report : Report) (first : Record) (words : List Path) (steps : List St
         (subst (λ c. IsFirstFailing (before_claim report.header (take 1 report.records) first c ++ claim_conditions report.header (sides_by n) (take 1 report.records) c) (clause_of f)) (sym is)
         (failing f fails));
   }
+
+-- claim 1 is a basis
+only_basis : (rs : List Record) (r : Record) (c : Claim) → HasItsPlace rs r c → length rs ≤ 1 → ((words : List Path) (steps : List Step) (rules : List Rule) → c ≡ Basis words steps rules → ⊥) → ⊥
+only_basis rs r (Basis words steps rules) p l f = f words steps rules refl
+only_basis rs r (Module m) p l f = omega (arith, p, l)
+only_basis rs r (Map g) p l f = omega (arith, p, l)
+only_basis rs r (Hom a b rows) p l f = omega (arith, p, l)
+only_basis rs r (Kernel n g i) p l f = omega (arith, p, l)
+only_basis rs r (Cokernel n g i) p l f = omega (arith, p, l)
+only_basis rs r (Radical n a i) p l f = omega (arith, p, l)
+only_basis rs r (Resolution a n terms) p l f = omega (arith, p, l)
+only_basis rs r (Ext n a b rows c) p l f = omega (arith, p, l)
+only_basis rs r (Local m c ideal power residue) p l f = omega (arith, p, l)
+only_basis rs r (Decomposition a s g h parts) p l f = omega (arith, p, l)
+only_basis rs r (Translate which n a c rows) p l f = omega (arith, p, l)
+only_basis rs r (AlmostSplit n e a g h c k phi left middle) p l f = omega (arith, p, l)
+
+short_front : {X : Type 0} (xs : List X) → length (take 1 xs) ≤ 1
+short_front [] = omega arith
+short_front (x ∷ xs) = omega arith
+
+pub basis_first : (report : Report) (first : Record) → IsReport report → record_of report.records 1 ≡ Some first
+    → ((words : List Path) (steps : List Step) (rules : List Rule) → first.claim ≡ Basis words steps rules → ⊥) → ⊥
+basis_first report first lawful there f =
+    let r : IsRecord report.header (take 1 report.records) first = subst (MayBeRecord report.header (take 1 report.records)) there (lawful.each 1) in
+    only_basis (take 1 report.records) first first.claim r.place (short_front report.records) f

@@ -6,12 +6,12 @@ use Rattle.report_types.specs.declared.claims.Record.{Record}
 
 abbrev pub IsJudged : Claim → Type 0
 IsJudged (Basis words steps rules) = ⊤
-IsJudged (Module m) = ⊥
-IsJudged (Map f) = ⊥
-IsJudged (Hom a b rows) = ⊥
-IsJudged (Kernel n f i) = ⊥
-IsJudged (Cokernel n f p) = ⊥
-IsJudged (Radical n a i) = ⊥
+IsJudged (Module m) = ⊤
+IsJudged (Map f) = ⊤
+IsJudged (Hom a b rows) = ⊤
+IsJudged (Kernel n f i) = ⊤
+IsJudged (Cokernel n f p) = ⊤
+IsJudged (Radical n a i) = ⊤
 IsJudged (Resolution a n terms) = ⊥
 IsJudged (Ext n a b rows c) = ⊥
 IsJudged (Local m c ideal power residue) = ⊥

@@ -1,2 +1,3 @@
 pub mod ClaimVerdicts
 pub mod Judged
+pub mod Room

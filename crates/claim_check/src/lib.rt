@@ -2,7 +2,10 @@
 #![tactic(auto)]
 
 mod claims;
+mod kinds;
+mod objects;
 mod reports;
 
-pub use claims::{Scratch, check_claim, scratch_for};
+pub use claims::{check_claim, scratch_for};
+pub use fp_linear::Scratch;
 pub use reports::check_report;

@@ -1,5 +1,6 @@
 //! Checking a report.
-ghost use Rattle.std.specs.Prelude.{◌≡◌, ◌<◌, ◌≤◌, length, IfOk};
+ghost use Rattle.std.specs.Prelude.{◌≡◌, ◌<◌, ◌≤◌, Some, length, IfOk};
+ghost use Rattle.report_types.specs.Numbers.{record_of};
 ghost use Rattle.report_types.specs.Lawful.{IsReport};
 ghost use Rattle.report_types.specs.Verdicts.{IsVerdict};
 ghost use Rattle.claim_check.specs.ClaimVerdicts.{IsTableOf, clause_of};
@@ -9,7 +10,7 @@ use crate::claims::{check_claim, scratch_for};
 use alg_table::{CheckBasisError, Table, check_basis};
 use claim_conditions::Clause;
 use path_algebra::BasisFault;
-use report_types::{Claim, Report, Verdict};
+use report_types::{Claim, Record, Report, Verdict};
 use std::alloc::{AllocError, Global};
 
 /// The condition on a claim that a fault of its basis names.
@@ -41,6 +42,17 @@ fn check_later(alloc: Global, table: &Table, report: &Report) -> Result<Verdict,
     Ok(Verdict::Holds)
 }
 
+/// The record of claim 1.
+fn first_record(report: &Report) -> &Record
+    requires { 0 < length report.now.records }
+    ensures { record_of report.now.records 1 ≡ Some result.now }
+{
+    match report.records.record_at(1) {
+        Some(found) => found,
+        None => unreachable!(),
+    }
+}
+
 /// The verdict on a report that has a claim.
 fn check_claims(alloc: Global, report: &Report) -> Result<Verdict, AllocError>
     requires report { IsReport report.now }
@@ -48,9 +60,7 @@ fn check_claims(alloc: Global, report: &Report) -> Result<Verdict, AllocError>
     requires some { 0 < length report.now.records }
     ensures { IfOk result (IsVerdict report.now) }
 {
-    let Some(first) = report.records.record_at(1) else {
-        unreachable!()
-    };
+    let first = first_record(report);
     let Claim::Basis {
         words,
         steps,

@@ -9,11 +9,11 @@ use Rattle.module_types.specs.declared.Map.{Map}
 use Rattle.report_types.specs.declared.claims.Record.{Record}
 use Rattle.report_types.specs.Numbers.{modules_of, maps_of, numbered, no_module, no_map, module_of, map_of, record_of, claim_in, claim_of, NamesModule, NamesMap, NamesClaim}
 
-modules_append : (r s : List Record) → modules_of (r ++ s) ≡ modules_of r ++ modules_of s
+pub modules_append : (r s : List Record) → modules_of (r ++ s) ≡ modules_of r ++ modules_of s
 modules_append [] s = refl
 modules_append (x ∷ r) s = ap (λ ms. x.modules ++ ms) (modules_append r s) ∙ sym (append_assoc x.modules (modules_of r) (modules_of s))
 
-maps_append : (r s : List Record) → maps_of (r ++ s) ≡ maps_of r ++ maps_of s
+pub maps_append : (r s : List Record) → maps_of (r ++ s) ≡ maps_of r ++ maps_of s
 maps_append [] s = refl
 maps_append (x ∷ r) s = ap (λ ms. x.maps ++ ms) (maps_append r s) ∙ sym (append_assoc x.maps (maps_of r) (maps_of s))
 
