@@ -1,4 +1,4 @@
-//! Reports as texts: their one spelling, and reading them.
+//! Reports as texts: their one spelling, writing it, and reading it.
 #![tactic(auto)]
 
 mod items;
@@ -7,9 +7,7 @@ mod objects;
 mod part;
 mod reader;
 mod taking;
-
-pub use reader::{ReadTextError, read};
 mod writing;
 
-pub use part::{Item, Owner, Part, Place};
+pub use reader::{ReadTextError, read};
 pub use writing::{push_record, write, write_end, write_header, write_record};
