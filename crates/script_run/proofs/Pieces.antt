@@ -71,11 +71,11 @@ first_text h rs ss first e empty one =
 
 module _ (script : Script) (report : Report) (first : Record) (ss : List Record) (text : List ℕ) (lawful : IsLawful script) (right : IsRightRecord script first)
     (same : report.header ≡ script.header) (empty : report.records ≡ []) (one : ss ≡ first ∷ []) (written : text ≡ text_behind report.header [] first) where
-  pub first_reached : (start mid now : Option (List ℕ)) → IsReached script report start mid → Takes mid text now
-      → IsReached script (record { header = report.header; records = ss; end = report.end }) start now
-  first_reached start mid now reached takes = record {
-    right = right_beginning script first lawful right report.header ss report.end same one;
-    takes = subst (λ t. Takes start t now) (ap (λ t. begun_text report ++ t) written ∙ sym (first_text report.header report.records ss first report.end empty one))
+  pub first_reached : (e : End) (start mid now : Option (List ℕ)) → IsReached script report start mid → Takes mid text now
+      → IsReached script (record { header = report.header; records = ss; end = e }) start now
+  first_reached e start mid now reached takes = record {
+    right = right_beginning script first lawful right report.header ss e same one;
+    takes = subst (λ t. Takes start t now) (ap (λ t. begun_text report ++ t) written ∙ sym (first_text report.header report.records ss first e empty one))
         (Takes-append start mid now (begun_text report) text reached.takes takes);
   }
 

@@ -168,6 +168,16 @@ module _ (script : Script) (first : Record) (lawful : IsLawful script) (right : 
     ends = full_end script.statements e lawful.order.behind lawful.order.limit ends;
   }
 
+  done_report : IsReport (with_end Done)
+  done_report = record {
+    header = lawful.header;
+    few = first_records.few;
+    few_modules = first_records.few_modules;
+    few_maps = first_records.few_maps;
+    each = first_each;
+    ends = tt;
+  }
+
   answers_with : (left : List Statement) (e : End) → script.statements ≡ left → EndsBehindBasis left e → AnswersScript script (with_end e)
   answers_with [] e none ends = subst (λ x. AnswersScript script (with_end x)) (sym ends) record {
     header = refl;
@@ -225,3 +235,10 @@ module _ (script : Script) (first : Record) (lawful : IsLawful script) (right : 
   right_beginning h rs e same one =
       subst (λ l. IsRightBeginning script (record { header = h; records = l; end = e })) (sym one)
       (subst (λ g. IsRightBeginning script (record { header = g; records = first ∷ []; end = e })) (sym same) (beginning e))
+
+-- the record of the basis alone, as a report that ends behind it
+pub alone_is_report : (script : Script) (first : Record) (h : Header) (rs : List Record) → IsLawful script → IsRightRecord script first → h ≡ script.header → rs ≡ first ∷ []
+    → IsReport (record { header = h; records = rs; end = Done })
+alone_is_report script first h rs lawful right same one =
+    subst (λ g. IsReport (record { header = g; records = rs; end = Done })) (sym same)
+    (subst (λ l. IsReport (record { header = script.header; records = l; end = Done })) (sym one) (done_report script first lawful right))

@@ -68,6 +68,7 @@ pub(crate) fn write_first<K: Sink>(
     let Ok(()) = next.records.push(first) else {
         return Err(Halt::NoMemory);
     };
+    next.end = End::Done;
     let Ok(text) = write_record(alloc, &next, 1) else {
         return Err(Halt::NoMemory);
     };
