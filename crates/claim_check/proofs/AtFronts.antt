@@ -59,7 +59,7 @@ module _ (report : Report) (is : IsReport report) (k : ℕ) where
       let G = Goes front i n F.source in
       let y1 = subst (λ (m : Map). IsAnswer (kernel_conditions (Goes rs i n m.source) h (module_of rs n) (module_of rs m.source) (module_of rs m.target) m.matrices (map_of rs i).matrices) r) (whole_map k rs f x.objects.is_map) y in
       let y2 = named_swap clause.Objects (behind_first (kernel_conditions ⊤ h (module_of rs n) (module_of rs F.source) (module_of rs F.target) F.matrices (map_of rs i).matrices)) (Goes rs i n F.source) G r
-          (goes_over rs front i n F.source ei) (goes_over front rs i n F.source (sym ei)) y1 in
+      (goes_over rs front i n F.source ei) (goes_over front rs i n F.source (sym ei)) y1 in
       let y3 = subst (λ m. IsAnswer (kernel_conditions G h m (module_of rs F.source) (module_of rs F.target) F.matrices (map_of rs i).matrices) r) (whole_module k rs n x.objects.is_module) y2 in
       let y4 = subst (λ m. IsAnswer (kernel_conditions G h (module_of front n) m (module_of rs F.target) F.matrices (map_of rs i).matrices) r) (whole_module k rs F.source b.source) y3 in
       let y5 = subst (λ m. IsAnswer (kernel_conditions G h (module_of front n) (module_of front F.source) m F.matrices (map_of rs i).matrices) r) (whole_module k rs F.target b.target) y4 in
@@ -75,7 +75,7 @@ module _ (report : Report) (is : IsReport report) (k : ℕ) where
       let G = Goes front i F.target n in
       let y1 = subst (λ (m : Map). IsAnswer (cokernel_conditions (Goes rs i m.target n) h (module_of rs n) (module_of rs m.source) (module_of rs m.target) m.matrices (map_of rs i).matrices) r) (whole_map k rs f x.objects.is_map) y in
       let y2 = named_swap clause.Objects (behind_first (cokernel_conditions ⊤ h (module_of rs n) (module_of rs F.source) (module_of rs F.target) F.matrices (map_of rs i).matrices)) (Goes rs i F.target n) G r
-          (goes_over rs front i F.target n ei) (goes_over front rs i F.target n (sym ei)) y1 in
+      (goes_over rs front i F.target n ei) (goes_over front rs i F.target n (sym ei)) y1 in
       let y3 = subst (λ m. IsAnswer (cokernel_conditions G h m (module_of rs F.source) (module_of rs F.target) F.matrices (map_of rs i).matrices) r) (whole_module k rs n x.objects.is_module) y2 in
       let y4 = subst (λ m. IsAnswer (cokernel_conditions G h (module_of front n) m (module_of rs F.target) F.matrices (map_of rs i).matrices) r) (whole_module k rs F.source b.source) y3 in
       let y5 = subst (λ m. IsAnswer (cokernel_conditions G h (module_of front n) (module_of front F.source) m F.matrices (map_of rs i).matrices) r) (whole_module k rs F.target b.target) y4 in

@@ -116,7 +116,7 @@ module _ (report : Report) (is : IsReport report) where
       let front = take k report.records in
       numbered_all (IsMapBlock h front) no_map (maps_of front) n b
       (all_maps (IsMapBlock h front) front (λ i r e.
-          let s = front_record k report.records i r e in
-          All-weaker (IsMapBlock h (take (suc i) report.records)) (IsMapBlock h front)
-          (λ f x. map_block_in_whole h (suc i) front f (subst (λ fr. IsMapBlock h fr f) (sym (take-take (suc i) k report.records s.0)) x)) r.maps
-          (record_lawful report is (suc i) r s.1).maps))
+      let s = front_record k report.records i r e in
+      All-weaker (IsMapBlock h (take (suc i) report.records)) (IsMapBlock h front)
+      (λ f x. map_block_in_whole h (suc i) front f (subst (λ fr. IsMapBlock h fr f) (sym (take-take (suc i) k report.records s.0)) x)) r.maps
+      (record_lawful report is (suc i) r s.1).maps))
