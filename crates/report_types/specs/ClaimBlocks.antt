@@ -1,6 +1,6 @@
 -- The numbers and shapes of a claim, as the format has them: what it names stands before it and is of the kind that the form asks, and its matrices and rows
 -- have the shapes that the dimensions, the printed words and the named claims give.
-use Rattle.std.specs.Prelude.{ℕ, suc, ◌+◌, ◌≡◌, ◌≤◌, List, length, All}
+use Rattle.std.specs.Prelude.{ℕ, suc, ◌+◌, ◌≡◌, ◌<◌, ◌≤◌, ◌^◌, List, length, All}
 use Rattle.linear_algebra.specs.BlockFamilies.{total}
 use Rattle.linear_algebra.specs.Rows.{IsRow}
 use Rattle.fp_linear.specs.Matrix.{PlainMatrix}
@@ -54,11 +54,12 @@ module _ (h : Header) (rs : List Record) where
     pub objects : NamesBoth n i
     pub is_module : NamesModule rs a
 
-  -- terms 0 to n, each with rows for its generators, and of dimension at most 512
+  -- terms 0 to n, each with rows for its generators, which have numbers below 2^32, and of dimension at most 512
   pub record IsResolutionBlock (a n : ℕ) (terms : List TermRows) : Type 0 where
     pub named : NamesModule rs a
     pub short : n ≤ resolution_limit
     pub counted : length terms ≡ suc n
+    pub few : (k : ℕ) → k ≤ n → length (vertices_at terms k) < 2 ^ 32
     pub each : (k : ℕ) → k ≤ n → IsTerm h.field (quiver_of h.quiver) (covered_dim (printed_words rs) h (module_of rs a) terms k) (term_at terms k)
     pub small : (k : ℕ) → k ≤ n → total (vertex_count h.quiver) (projective_dim (printed_words rs) (module_of rs a).side (vertices_at terms k)) ≤ term_limit
 
