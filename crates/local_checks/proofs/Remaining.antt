@@ -1,7 +1,7 @@
 -- What is left of families modulo a space: from lent memory to the conditions.
 use Rattle.std.proofs.Common.{ℕ, ◌<◌, ◌≤◌, ◌≡◌, ◌+◌, ◌-◌, ◌*◌, List, ◌++◌, length, take, drop, sym, ap, ap₂, ◌∙◌, inl, inr, arith, subst}
 use Rattle.std.proofs.lemmas.Bool.{cases_eq}
-use Rattle.linear_algebra.specs.Field.{Gf, order}
+use Rattle.linear_algebra.specs.Field.{Gf}
 use Rattle.linear_algebra.specs.Parts.{row}
 use Rattle.linear_algebra.proofs.PartsLaws.{Row-eq, row-at}
 use Rattle.linear_algebra.specs.Matrix.{Mat, ◌⊞◌, ◌⊟◌, ◌⊙◌}
@@ -12,13 +12,13 @@ use Rattle.linear_algebra.proofs.MatrixLaws.{difference, negative_sum, negative_
 use Rattle.linear_algebra.proofs.Ranks.{rank_same_span, rank_right_inverse}
 use Rattle.linear_algebra.specs.Matrix.{negative}
 use Rattle.path_algebra.specs.declared.Header.{Header}
-use Rattle.local_modules.specs.Algebra.{Element, power_in}
+use Rattle.local_modules.specs.Algebra.{Element}
 use Rattle.module_types.specs.declared.Module.{Module}
 use Rattle.claim_conditions.specs.LocalConditions.{families_of}
 use Rattle.local_checks.specs.Standing.{standing}
 use Rattle.local_checks.specs.Rows.{IsSpaceOf}
 use Rattle.local_checks.specs.Families.{IsFamily, IsFamilySpace, family, family_rows}
-use Rattle.local_checks.specs.Remainders.{IsRemainderOf, AreRemaindersUpTo, HasRemaindersOfRank}
+use Rattle.local_checks.specs.Remainders.{IsRemainderOf, AreRemaindersUpTo, HaveRemaindersOfRank}
 use Rattle.local_checks.proofs.Places.{place_below, row_room, part_before, part_within, part_elements}
 use Rattle.local_checks.proofs.Spaces.{standing-at, as_row_is, coefficients, remainder_is, remainder_clear}
 use Rattle.fp_linear.specs.Slices.{AreElements, plus_multiple}
@@ -57,15 +57,15 @@ remainder_written h m factor x rows pivots power sum rest fx fp S a p e es er =
     (added_row h.field (families_of h m).size factor x power sum fx.elements fp.elements a fx.count fp.count es ∙ ap (λ (z : Element (families_of h m)). z ⊞ factor ⊙ family h m x) e)
 
 -- One row more.
-pub remainders_step : (h : Header) (m : Module) (rows pivots : List ℕ) (n : ℕ) (ring : Mat h.field n (families_of h m).size) (factor : ℕ) (old w : List ℕ) (i c : ℕ) → c ≡ (families_of h m).size → i < n
-    → length old ≡ n * (families_of h m).size → AreElements h.field old → IsFamily h m w → AreRemaindersUpTo h m rows pivots ring factor (family_rows h m n old) i
-    → IsRemainderOf h m rows pivots (power_in (families_of h m) (row i ring) (order h.field) ⊞ factor ⊙ row i ring) (family h m w)
-    → AreRemaindersUpTo h m rows pivots ring factor (family_rows h m n (take (i * c) old ++ (w ++ drop (i * c + c - i * c) (drop (i * c) old)))) (i + 1) × AreElements h.field (take (i * c) old ++ (w ++ drop (i * c + c - i * c) (drop (i * c) old)))
-remainders_step h m rows pivots n ring factor old w i c e l o a f before here = rw e (
+pub remainders_step : (h : Header) (m : Module) (rows pivots : List ℕ) (n : ℕ) (x : ℕ → Element (families_of h m)) (old w : List ℕ) (i c : ℕ) → c ≡ (families_of h m).size → i < n
+    → length old ≡ n * (families_of h m).size → AreElements h.field old → IsFamily h m w → AreRemaindersUpTo h m rows pivots x (family_rows h m n old) i
+    → IsRemainderOf h m rows pivots (x i) (family h m w)
+    → AreRemaindersUpTo h m rows pivots x (family_rows h m n (take (i * c) old ++ (w ++ drop (i * c + c - i * c) (drop (i * c) old)))) (i + 1) × AreElements h.field (take (i * c) old ++ (w ++ drop (i * c + c - i * c) (drop (i * c) old)))
+remainders_step h m rows pivots n x old w i c e l o a f before here = rw e (
   (λ j b. elim (cases_eq j i) [
-    | inl d ↦ subst (λ (j : ℕ). IsRemainderOf h m rows pivots (power_in (families_of h m) (row j ring) (order h.field) ⊞ factor ⊙ row j ring) (row j (family_rows h m n (take (i * (families_of h m).size) old ++ (w ++ drop (i * (families_of h m).size + (families_of h m).size - i * (families_of h m).size) (drop (i * (families_of h m).size) old)))))) (sym d)
-        (subst (IsRemainderOf h m rows pivots (power_in (families_of h m) (row i ring) (order h.field) ⊞ factor ⊙ row i ring)) (sym this_row) here)
-    | inr d ↦ subst (IsRemainderOf h m rows pivots (power_in (families_of h m) (row j ring) (order h.field) ⊞ factor ⊙ row j ring)) (sym (other_row j (omega (arith, b, d)))) (before j (omega (arith, b, d)))
+    | inl d ↦ subst (λ (j : ℕ). IsRemainderOf h m rows pivots (x j) (row j (family_rows h m n (take (i * (families_of h m).size) old ++ (w ++ drop (i * (families_of h m).size + (families_of h m).size - i * (families_of h m).size) (drop (i * (families_of h m).size) old)))))) (sym d)
+        (subst (IsRemainderOf h m rows pivots (x i)) (sym this_row) here)
+    | inr d ↦ subst (IsRemainderOf h m rows pivots (x j)) (sym (other_row j (omega (arith, b, d)))) (before j (omega (arith, b, d)))
   ]),
   new_elements,
 )
@@ -85,9 +85,9 @@ remainders_step h m rows pivots n ring factor old w i c e l o a f before here = 
         ∙ part_before old w (i * (families_of h m).size) (i * (families_of h m).size + (families_of h m).size - i * (families_of h m).size) (families_of h m).size f.count (omega arith) room (j * (families_of h m).size + t) (place_below j (families_of h m).size t i b d)
         ∙ sym (row-at j (family_rows h m n old) t ∙ standing-at h.field n (families_of h m).size old a j t (omega (arith, b, l)) d))
 
-pub remainders_done : (h : Header) (m : Module) (rows pivots : List ℕ) (n : ℕ) (ring : Mat h.field n (families_of h m).size) (factor : ℕ) (rest last ps : List ℕ) (i r c : ℕ) → i ≡ n → c ≡ (families_of h m).size
-    → AreRemaindersUpTo h m rows pivots ring factor (family_rows h m n rest) i → IsSpaceOf (standing h.field n c rest) last ps r → HasRemaindersOfRank h m rows pivots ring factor r
-remainders_done h m rows pivots n ring factor rest last ps i r c e d u s = record {
+pub remainders_done : (h : Header) (m : Module) (rows pivots : List ℕ) (n : ℕ) (x : ℕ → Element (families_of h m)) (rest last ps : List ℕ) (i r c : ℕ) → i ≡ n → c ≡ (families_of h m).size
+    → AreRemaindersUpTo h m rows pivots x (family_rows h m n rest) i → IsSpaceOf (standing h.field n c rest) last ps r → HaveRemaindersOfRank h m rows pivots n x r
+remainders_done h m rows pivots n x rest last ps i r c e d u s = record {
   rest = family_rows h m n rest;
   are = λ j l. u j (omega (arith, e, l));
   rank_is = rank_of_space (family_rows h m n rest) last ps r (subst (λ (k : ℕ). IsSpaceOf (standing h.field n k rest) last ps r) d s);

@@ -19,15 +19,23 @@ pub record IsRemainderOf (h : Header) (m : Module) (rows pivots : List ℕ) (x r
   pub differs : IsInSpan (family_space h m rows pivots) (x ⊟ rest)
   pub clear : (i : ℕ) → i < length pivots → rest.at 0 (pivot (rows_of (length pivots) (families_of h m).size rows) i) ≡ 0
 
--- The remainders of the q-th powers of the rows and `factor` times the rows have this rank.
-pub record HasRemaindersOfRank (h : Header) (m : Module) (rows pivots : List ℕ) {n : ℕ} (ring : Mat h.field n (families_of h m).size) (factor r : ℕ) : Type 0 where
+-- The remainders of n elements have this rank.
+pub record HaveRemaindersOfRank (h : Header) (m : Module) (rows pivots : List ℕ) (n : ℕ) (x : ℕ → Element (families_of h m)) (r : ℕ) : Type 0 where
   pub rest : Mat h.field n (families_of h m).size
-  pub are : (i : ℕ) → i < n → IsRemainderOf h m rows pivots (power_in (families_of h m) (row i ring) (order h.field) ⊞ factor ⊙ row i ring) (row i rest)
+  pub are : (i : ℕ) → i < n → IsRemainderOf h m rows pivots (x i) (row i rest)
   pub rank_is : rank rest ≡ r
 
--- The first k rows of `rest` are such remainders.
-abbrev pub AreRemaindersUpTo : (h : Header) (m : Module) (rows pivots : List ℕ) {n : ℕ} (ring : Mat h.field n (families_of h m).size) (factor : ℕ) (rest : Mat h.field n (families_of h m).size) → ℕ → Type 0
-AreRemaindersUpTo h m rows pivots ring factor rest k = (i : ℕ) → i < k → IsRemainderOf h m rows pivots (power_in (families_of h m) (row i ring) (order h.field) ⊞ factor ⊙ row i ring) (row i rest)
+-- The first k rows of `rest` are the remainders of so many elements.
+abbrev pub AreRemaindersUpTo : (h : Header) (m : Module) (rows pivots : List ℕ) (x : ℕ → Element (families_of h m)) {n : ℕ} (rest : Mat h.field n (families_of h m).size) → ℕ → Type 0
+AreRemaindersUpTo h m rows pivots x rest k = (i : ℕ) → i < k → IsRemainderOf h m rows pivots (x i) (row i rest)
+
+-- the q-th power of row i and `factor` times the row
+abbrev pub power_and_multiple : {q : Gf} (E : Algebra q) {n : ℕ} (ring : Mat q n E.size) (factor : ℕ) → ℕ → Element E
+power_and_multiple {q} E ring factor i = power_in E (row i ring) (order q) ⊞ factor ⊙ row i ring
+
+-- The remainders of these have this rank.
+abbrev pub HasRemaindersOfRank : (h : Header) (m : Module) (rows pivots : List ℕ) {n : ℕ} (ring : Mat h.field n (families_of h m).size) (factor r : ℕ) → Type 0
+HasRemaindersOfRank h m rows pivots {n} ring factor r = HaveRemaindersOfRank h m rows pivots n (power_and_multiple (families_of h m) ring factor) r
 
 -- The rows span an algebra with the identity, whose residue ring modulo the ideal is a field that q-th powers recognise.
 pub record IsFrobeniusSpace {q : Gf} (E : Algebra q) {n k : ℕ} (ring : Mat q n E.size) (ideal : Mat q k E.size) : Type 0 where

@@ -84,6 +84,9 @@ pub fn is_printed_ideal(
     requires count { length rows.old ≡ ideal.now.row_count * (families_of header.now m.now).size }
     requires room { ideal.now.row_count ≤ length pivots.old }
     requires work { IsFamily header.now m.now work.old }
+    ensures ring_elements { AreElements header.now.field ring.new }
+    ensures elements { AreElements header.now.field rows.new }
+    ensures work { IsFamily header.now m.now work.new }
     ensures ideal { MatchBool result (IsPrintedIdeal header.now m.now basis.now ideal.now) (¬ IsPrintedIdeal header.now m.now basis.now ideal.now) }
 {
     let _rows = ideal.rows();
@@ -132,6 +135,10 @@ pub fn is_printed_power(
     requires work { IsFamily header.now m.now work.old }
     requires next { AreElements header.now.field next.old }
     requires next_room { (families_of header.now m.now).size + (families_of header.now m.now).size ≤ length next.old }
+    ensures ring_elements { AreElements header.now.field ring.new }
+    ensures elements { AreElements header.now.field rows.new }
+    ensures work { IsFamily header.now m.now work.new }
+    ensures next { AreElements header.now.field next.new }
     ensures power { MatchBool result (IsPrintedPower header.now m.now basis.now ideal.now power) (¬ IsPrintedPower header.now m.now basis.now ideal.now power) }
 {
     let _rows = ideal.rows();

@@ -16,6 +16,7 @@ use Rattle.module_types.specs.Readings.{read}
 use Rattle.claim_conditions.specs.Terms.{sum_at, printed_matrix}
 use Rattle.claim_conditions.specs.KernelParts.{kernel_rows, IsClosed, kernel_part}
 use Rattle.claim_conditions.specs.ResolutionConditions.{OfCovered}
+use Rattle.claim_conditions.specs.Locals.{LocalHolds}
 use Rattle.script_types.specs.declared.Statement.{Statement}
 use Rattle.script_types.specs.declared.StatementKind.{StatementKind}
 use Rattle.script_types.specs.declared.StatementKind.TheVariants.{Rep, Std, Sum, Map, Kernel, Cokernel, Radical, Dual, Hom, Resolve, Ext, Decompose, Transpose, Tau, Taui, Ars}
@@ -28,7 +29,7 @@ use Rattle.report_types.specs.Verdicts.{NormalWords, sides_by}
 use Rattle.report_types.proofs.VerdictLaws.{words_of}
 use Rattle.script_answers.specs.Settings.{Setting, number_of, module_of}
 use Rattle.script_answers.specs.Refusals.{projectives_dim}
-use Rattle.script_answers.specs.Records.{ClaimsResolution, IsDecomposition}
+use Rattle.script_answers.specs.Records.{ClaimsResolution}
 use Rattle.script_answers.specs.LateRefusals.{terms_of, StopsBefore, StopsAtTerm, DualStopsAtTerm, PresentationShows, DualPresentationShows, ExtensionStops, IsRefusal, SequenceShows, Shows, IsDecomposable}
 use Rattle.script_answers.specs.Taken.{IsRefused, at_once, shown}
 
@@ -111,15 +112,12 @@ module _ (at : Setting) (ok : IsAllowed at.header) where
 
   -- ---- sequences
 
-  some_module : (m : Module) (modules : List Module) → modules ≡ [] → modules ≡ m ∷ [] → ⊥
-  some_module m modules x y = cc
-
-  not_parts : (a : ℕ) (m : Module) (records : List Record) (w : Why) → IsDecomposition at a m records → SequenceShows at a m records w → ⊥
-  not_parts a m [] w d s = s
-  not_parts a m (x ∷ []) w d s = s
-  not_parts a m (x ∷ (y ∷ [])) w d s = d.1
-  not_parts a m (x ∷ (y ∷ (z ∷ []))) w d s = some_module d.0.part x.modules s.0.homs.prints.modules d.0.prints.modules
-  not_parts a m (x ∷ (y ∷ (z ∷ (t ∷ rest)))) w d s = s
+  local_by : (a : ℕ) (m : Module) (records : List Record) (w : Why) → SequenceShows at a m records w → LocalHolds at.header m
+  local_by a m [] w s = absurd s
+  local_by a m (x ∷ []) w s = absurd s
+  local_by a m (x ∷ (y ∷ [])) w s = s.0.is_local
+  local_by a m (x ∷ (y ∷ (z ∷ []))) w s = s.0.is_local
+  local_by a m (x ∷ (y ∷ (z ∷ (t ∷ rest)))) w s = absurd s
 
   sequence_once : (a : ℕ) (m : Module) (records : List Record) (v w : Why) → SequenceShows at a m records v → SequenceShows at a m records w → v ≡ w
   sequence_once a m [] v w x y = absurd x
@@ -131,8 +129,8 @@ module _ (at : Setting) (ok : IsAllowed at.header) where
   ars_once : (a : ℕ) (m : Module) (records : List Record) (v w : Why) → IsDecomposable at a m records v ⊎ SequenceShows at a m records v
       → IsDecomposable at a m records w ⊎ SequenceShows at a m records w → v ≡ w
   ars_once a m records v w (inl x) (inl y) = x.is ∙ sym y.is
-  ars_once a m records v w (inl x) (inr y) = absurd (not_parts a m records w x.shown y)
-  ars_once a m records v w (inr x) (inl y) = absurd (not_parts a m records v y.shown x)
+  ars_once a m records v w (inl x) (inr y) = absurd (x.not_local (local_by a m records w y))
+  ars_once a m records v w (inr x) (inl y) = absurd (y.not_local (local_by a m records v x))
   ars_once a m records v w (inr x) (inr y) = sequence_once a m records v w x y
 
   -- ---- statements

@@ -26,7 +26,7 @@ use Rattle.report_types.specs.WordDimensions.{count_at}
 use Rattle.script_answers.specs.FirstTests.{first_of, unless, dim_limit, hom_limit, dual_limit_at}
 use Rattle.script_answers.specs.Settings.{Setting, number_of, module_of}
 use Rattle.script_answers.specs.Refusals.{projectives_dim, injectives_dim, cover_dim, dual_written}
-use Rattle.script_answers.specs.Records.{next_claim, IsHomRecord, IsLocalRecord, IsResolutionRecord, IsDualResolution, IsDecomposition}
+use Rattle.script_answers.specs.Records.{AreLocalRecords, IsResolutionRecord, IsDualResolution, IsDecomposition}
 
 -- the terms that a record prints
 abbrev pub terms_of : Record → List TermRows
@@ -123,20 +123,15 @@ pub record IsDecomposable (at : Setting) (a : ℕ) (m : Module) (records : List 
   pub shown : IsDecomposition at a m records
   pub not_local : LocalHolds at.header m → ⊥
 
--- a basis of the endomorphisms of module a, and by it that it is local
-pub record AreLocalRecords (at : Setting) (a : ℕ) (hom loc : Record) : Type 0 where
-  pub homs : IsHomRecord a a hom
-  pub local : IsLocalRecord a (next_claim at) loc
-
 -- term 0 of its resolution is too large
 pub record IsLargeCover (at : Setting) (m : Module) (w : Why) : Type 0 where
   pub is : w ≡ why.TermLimit zero (cover_dim at m)
   pub large : term_limit < cover_dim at m
 
 abbrev pub SequenceShows : Setting → (a : ℕ) → Module → List Record → Why → Type 0
-SequenceShows at a m (hom ∷ (loc ∷ [])) w = AreLocalRecords at a hom loc × IsLargeCover at m w
+SequenceShows at a m (hom ∷ (loc ∷ [])) w = AreLocalRecords at a m hom loc × IsLargeCover at m w
 SequenceShows at a m (hom ∷ (loc ∷ (r ∷ []))) w =
-    AreLocalRecords at a hom loc × (StopsAtTerm at a m 1 r w ⊎ PresentationShows at a r (sequence_refused at m) w)
+    AreLocalRecords at a m hom loc × (StopsAtTerm at a m 1 r w ⊎ PresentationShows at a r (sequence_refused at m) w)
 SequenceShows at a m records w = ⊥
 
 -- ---- the table

@@ -10,3 +10,4 @@ pub mod Statements
 pub mod LateRefusals
 pub mod Taken
 pub mod Answers
+pub mod SmallSettings

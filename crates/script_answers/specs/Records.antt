@@ -12,6 +12,7 @@ use Rattle.bound_algebra.specs.TypedPaths.{quiver_of}
 use Rattle.module_types.specs.Algebras.{algebra_at}
 use Rattle.module_types.specs.Written.{written, simple_at, block_sum_of}
 use Rattle.claim_conditions.specs.declared.Residue.{Residue}
+use Rattle.claim_conditions.specs.Locals.{LocalHolds}
 use Rattle.script_types.specs.declared.Standard.{Standard}
 use Rattle.script_types.specs.declared.Standard.TheVariants.{Simple, Projective, Injective}
 use Rattle.report_types.specs.declared.claims.Claim.{Claim}
@@ -117,6 +118,12 @@ pub record IsHomRecord (a b : ℕ) (r : Record) : Type 0 where
 pub record IsLocalRecord (a hom : ℕ) (r : Record) : Type 0 where
   pub prints : PrintsNothing r
   pub claims : ClaimsLocal a hom r
+
+-- module a is local, and this is shown: a basis of its endomorphisms, and the claim by it
+pub record AreLocalRecords (at : Setting) (a : ℕ) (m : Module) (hom loc : Record) : Type 0 where
+  pub is_local : LocalHolds at.header m
+  pub homs : IsHomRecord a a hom
+  pub local : IsLocalRecord a (next_claim at) loc
 
 pub record IsResolutionRecord (a n : ℕ) (r : Record) : Type 0 where
   pub prints : PrintsNothing r

@@ -15,7 +15,7 @@ use Rattle.script_answers.specs.Names.{Names}
 use Rattle.script_answers.specs.Settings.{Setting, number_of, module_of, map_number_of, map_of}
 use Rattle.script_answers.specs.Written.{vertex_names, rep_written, map_written}
 use Rattle.script_answers.specs.Refusals.{place_of, dual_written}
-use Rattle.script_answers.specs.Records.{next_module, next_map, next_claim, IsModuleRecord, IsStandardRecord, IsMapRecord, IsPartRecord, IsHomRecord, IsLocalRecord, IsResolutionRecord, IsExtensionRecord, IsDualResolution, IsTranslateRecord, IsSequenceRecord, IsDecomposition}
+use Rattle.script_answers.specs.Records.{next_module, next_map, next_claim, IsModuleRecord, IsStandardRecord, IsMapRecord, IsPartRecord, IsHomRecord, AreLocalRecords, IsResolutionRecord, IsExtensionRecord, IsDualResolution, IsTranslateRecord, IsSequenceRecord, IsDecomposition}
 
 -- the block sum of two modules of one side
 abbrev pub sum_written : Header → Module → Module → Module
@@ -44,7 +44,7 @@ Takes at (Taui name a) (res ∷ (r ∷ [])) =
     IsDualResolution at (dual_written at.header (module_of at a)) 1 res
     × IsTranslateRecord (translation.Taui (next_module at)) (next_module at + 1) (number_of at a) (next_claim at) r
 Takes at (Ars a left middle) (hom ∷ (loc ∷ (res ∷ (r ∷ [])))) =
-    IsHomRecord (number_of at a) (number_of at a) hom × IsLocalRecord (number_of at a) (next_claim at) loc × IsResolutionRecord (number_of at a) 1 res
+    AreLocalRecords at (number_of at a) (module_of at a) hom loc × IsResolutionRecord (number_of at a) 1 res
     × IsSequenceRecord at (number_of at a) (next_claim at + 2) (next_claim at + 1) r
 Takes at _ _ = ⊥
 

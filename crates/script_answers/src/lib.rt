@@ -3,6 +3,7 @@
 #![tactic(auto)]
 
 mod bound;
+pub mod examples;
 pub mod laws;
 
 pub use bound::Bound;

@@ -1,0 +1,5 @@
+pub mod Room
+pub mod Asking
+pub mod Following
+pub mod Cleared
+pub mod RowConditions

@@ -1,0 +1,4 @@
+pub mod UnitRanks
+pub mod ClassRows
+pub mod Combinations
+pub mod PrintedListed

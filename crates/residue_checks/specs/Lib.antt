@@ -1,0 +1,4 @@
+pub mod RingsModulo
+pub mod Representatives
+pub mod ZeroOrUnits
+pub mod LocalRoom

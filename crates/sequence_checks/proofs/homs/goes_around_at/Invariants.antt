@@ -1,0 +1,15 @@
+use Rattle.linear_algebra.specs.Matrix.{◌·◌}
+use Rattle.alg_table.specs.TableView.{IsTable}
+use Rattle.representations.specs.Sum.{sum_rep}
+use Rattle.module_types.specs.Algebras.{algebra_at}
+use Rattle.module_types.specs.Readings.{family_of}
+use Rattle.translate_checks.specs.Squares.{AgreeOnColumns}
+use Rattle.translate_checks.specs.Steps.{module_in, injectives_in}
+use Rattle.sequence_checks.proofs.homs.goes_around_at.Given as goal
+
+abbrev pub invariant-loop-j : goal.invariant-loop-j
+invariant-loop-j l = (t : IsTable l.table.header l.table.words) →
+    let X = module_in l.table.header l.table.words t l.fn.side l.fn.e in
+    let Y = sum_rep (injectives_in l.table.header l.table.words t l.fn.side l.vertices) (module_in l.table.header l.table.words t l.fn.side l.m) in
+    let Q = (algebra_at l.fn.side l.table.header).quiver in
+    AgreeOnColumns (X.mat l.fn.k · family_of X Y l.fn.matrices (Q.target l.fn.k)) (family_of X Y l.fn.matrices (Q.source l.fn.k) · Y.mat l.fn.k) l.j

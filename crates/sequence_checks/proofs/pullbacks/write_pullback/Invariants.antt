@@ -1,0 +1,16 @@
+use Rattle.std.proofs.Common.{◌≡◌, ◌+◌}
+use Rattle.linear_algebra.specs.BlockFamilies.{total}
+use Rattle.fp_linear.specs.Slices.{AreElements}
+use Rattle.alg_table.specs.TableView.{IsTable}
+use Rattle.module_types.specs.Algebras.{other_side}
+use Rattle.term_rows.specs.RowSteps.{part_dim}
+use Rattle.term_rows.specs.TermCells.{FirstRows}
+use Rattle.sequence_checks.specs.Pullbacks.{pulled_back}
+use Rattle.sequence_checks.proofs.pullbacks.write_pullback.Given as goal
+
+abbrev pub invariant-loop-j : goal.invariant-loop-j
+invariant-loop-j l = record {
+  at : l.at ≡ total l.j (part_dim l.table.words (other_side l.side) l.cover l.w);
+  rows : (t : IsTable l.table.header l.table.words) → FirstRows (pulled_back l.table.header l.table.words t l.side l.m l.cover l.functional l.syzygy l.w) (l.a + l.b) l.at l.into;
+  elements : AreElements l.table.header.field l.into;
+}

@@ -1,0 +1,4 @@
+pub mod Pullbacks
+pub mod Sizes
+pub mod Maps
+pub mod Room

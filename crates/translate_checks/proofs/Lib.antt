@@ -1,0 +1,9 @@
+pub mod AcrossRows
+pub mod DotSteps
+pub mod TransposedRows
+pub mod Ends
+pub mod HomSteps
+pub mod SizeSteps
+pub mod EmbeddingTests
+pub mod DualTests
+pub mod Answering

@@ -1,0 +1,26 @@
+use Rattle.std.proofs.Common.{sym, ap, ap₂, ◌∙◌, get_or, ◌+◌}
+use Rattle.linear_algebra.specs.Field.{add, mul}
+use Rattle.linear_algebra.specs.FieldLaws.{order-pos, mul_below, add_below}
+use Rattle.linear_algebra.specs.Sums.{sum-none}
+use Rattle.linear_algebra.proofs.Rows.{row-entry}
+use Rattle.translate_checks.proofs.DotSteps.{row_dot-more}
+use Rattle.translate_checks.proofs.dots.row_dot.Goals as goal
+
+pub loop-t-init : goal.loop-t-init
+loop-t-init c = record { sum = sym (sum-none c.args.field _); small = order-pos c.args.field }
+
+pub mul-requires-clause-a_below : goal.mul-requires-clause-a_below
+mul-requires-clause-a_below c = rw (c.row-row.ensures.row, row-entry c.args.a.now.rows c.args.r c.loop-t.t, ← c.requires.field) (c.row-row.ensures.matrix.grid.small c.args.r c.loop-t.t)
+
+pub add-sum-requires-clause-b_below : goal.add-sum-requires-clause-b_below
+add-sum-requires-clause-b_below c = rw c.mul.ensures (mul_below c.args.field _ _)
+
+pub loop-t-preserved : goal.loop-t-preserved
+loop-t-preserved c = record {
+  sum =
+      c.add-sum.ensures
+      ∙ ap₂ (add c.args.field) c.loop-t.invariant.sum (c.mul.ensures
+      ∙ ap (λ x. mul c.args.field x (get_or c.args.s.now (c.args.start + c.loop-t.t) 0)) (ap (λ r. get_or r c.loop-t.t 0) c.row-row.ensures.row ∙ row-entry c.args.a.now.rows c.args.r c.loop-t.t))
+      ∙ sym (row_dot-more c.args.field c.loop-t.t c.args.a.now c.args.r c.args.s.now c.args.start);
+  small = rw c.add-sum.ensures (add_below c.args.field _ _);
+}
