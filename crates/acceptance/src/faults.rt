@@ -12,15 +12,15 @@ fn script(alloc: Global) -> Result<Vec<u8>, Fail> {
 }
 
 /// Its report.
-fn report(alloc: Global) -> Result<Vec<u8>, Fail> {
-    Ok(answer(alloc, "run", script(alloc)?)?.text)
+fn report(rt: &HostRuntime) -> Result<Vec<u8>, Fail> {
+    Ok(answer(rt, "run", script(rt.alloc())?)?.text)
 }
 
 // The script has 64 bytes, which are read in pieces of 7; the last read finds nothing.
 #[test]
 fn each_read_fails(rt: HostRuntime) -> Result<(), Fail> {
     for call in 1..=20 {
-        let found = failing_answer(rt.alloc(), "run", script(rt.alloc())?, call, 0)?;
+        let found = failing_answer(&rt, "run", script(rt.alloc())?, call, 0)?;
         if call <= 10 {
             assert_eq!(rt; found.status, 6, "{call}");
             assert!(rt; found.text.is_empty(), "{call}");
@@ -34,9 +34,9 @@ fn each_read_fails(rt: HostRuntime) -> Result<(), Fail> {
 
 #[test]
 fn each_write_fails(rt: HostRuntime) -> Result<(), Fail> {
-    let whole = report(rt.alloc())?;
+    let whole = report(&rt)?;
     for call in 1..=50 {
-        let found = failing_answer(rt.alloc(), "run", script(rt.alloc())?, 0, call)?;
+        let found = failing_answer(&rt, "run", script(rt.alloc())?, 0, call)?;
         assert!(rt; whole.starts_with(found.text.as_slice()), "{call}");
         if call <= 3 {
             assert_eq!(rt; found.status, 7, "{call}");
@@ -51,11 +51,11 @@ fn each_write_fails(rt: HostRuntime) -> Result<(), Fail> {
 
 #[test]
 fn each_cut_is_named(rt: HostRuntime) -> Result<(), Fail> {
-    let whole = report(rt.alloc())?;
+    let whole = report(&rt)?;
     let mut line = 1u32;
     for length in 0..whole.len() {
         let cut = Vec::from_slice(rt.alloc(), &whole[..length])?;
-        let found = answer(rt.alloc(), "check", cut)?;
+        let found = answer(&rt, "check", cut)?;
         let bad = format!(in rt.alloc(); "badtext {line}\n")?;
         assert_eq!(rt; found.status, 3, "{length}");
         assert_eq!(rt; found.text.as_slice(), bad.as_bytes(), "{length}");

@@ -3,11 +3,11 @@
 //! A row begins with a line `> LINE`, behind which a name may stand, and its text follows. LINE is the first bad line, counted from 1, or 0 where there is none.
 
 use crate::tables::{answer, ended};
-use std::alloc::Global;
 use std::test::Fail;
 
 /// Whether the program names the row's line as the first bad one.
-fn is_named(alloc: Global, words: &str, head: &str, row: &str) -> Result<bool, Fail> {
+fn is_named(rt: &HostRuntime, words: &str, head: &str, row: &str) -> Result<bool, Fail> {
+    let alloc = rt.alloc();
     let (first, rest) = row.split_once("\n").ok_or("no text")?;
     let line = match first.split_once(" ") {
         Some((line, _)) => line,
@@ -15,7 +15,7 @@ fn is_named(alloc: Global, words: &str, head: &str, row: &str) -> Result<bool, F
     };
     let mut input = Vec::from_slice(alloc, head.as_bytes())?;
     input.extend_from_slice(ended(alloc, rest)?.as_slice())?;
-    let found = answer(alloc, words, input)?;
+    let found = answer(rt, words, input)?;
     if line == "0" {
         return Ok(found.status != 3);
     }
@@ -25,13 +25,13 @@ fn is_named(alloc: Global, words: &str, head: &str, row: &str) -> Result<bool, F
 
 /// The first row of a table, with this text before each, whose line is not named.
 pub(crate) fn wrong_row<'a>(
-    alloc: Global,
+    rt: &HostRuntime,
     words: &str,
     head: &str,
     table: &'a str,
 ) -> Result<Option<&'a str>, Fail> {
     for row in table.split("\n> ").skip(1) {
-        if !is_named(alloc, words, head, row)? {
+        if !is_named(rt, words, head, row)? {
             return Ok(Some(row));
         }
     }

@@ -364,6 +364,83 @@ words 0
 steps 0
 rules 0
 refused 5 NotBuilt
+> 11
+claim 1 line 6 basis
+words 0
+steps 0
+rules 0
+claim 2 line 7 module 1
+> 11
+claim 1 line 6 basis
+words 0
+steps 0
+rules 0
+module 2 right 1
+> 11
+claim 1 line 6 basis
+words 0
+steps 0
+rules 0
+map 1 1 1
+> 12
+claim 1 line 6 basis
+words 0
+steps 0
+rules 0
+module 1 right 1
+claim 2 line 7 module 1
+> 12
+claim 1 line 6 basis
+words 0
+steps 0
+rules 0
+module 1 right 1
+at x 3
+> 13
+claim 1 line 6 basis
+words 0
+steps 0
+rules 0
+module 1 right 1
+at x 0
+claim 2 line 7 module 2
+> 14
+claim 1 line 6 basis
+words 0
+steps 0
+rules 0
+module 1 right 1
+at x 0
+claim 2 line 7 module 1
+row 0
+> 13
+claim 1 line 6 basis
+words 0
+steps 0
+rules 0
+module 1 right 1
+at x 0
+claim 2 line 7 kernel 1 1 1
+> 13
+claim 1 line 6 basis
+words 0
+steps 0
+rules 0
+module 1 right 1
+at x 0
+claim 2 line 7 local 1 using 1
+> 0
+claim 1 line 6 basis
+words 0
+steps 0
+rules 0
+module 1 right 0
+map 1 1 1
+claim 2 line 7 kernel 1 1 1
+claim 3 line 7 cokernel 1 1 1
+claim 4 line 7 radical 1 1 1
+claim 5 line 7 map 1
+refused 8 NotBuilt
 > 8 numerals
 claim 1 line 6 basis
 words 00
@@ -405,21 +482,21 @@ fn records() -> &'static str {
 
 #[test]
 fn bad_lines_of_headers(rt: HostRuntime) -> Result<(), Fail> {
-    let wrong = wrong_row(rt.alloc(), "check", "report 1\n", headers())?;
+    let wrong = wrong_row(&rt, "check", "report 1\n", headers())?;
     assert_eq!(rt; wrong, None);
     Ok(())
 }
 
 #[test]
 fn bad_lines_of_reports(rt: HostRuntime) -> Result<(), Fail> {
-    let wrong = wrong_row(rt.alloc(), "check", "", reports())?;
+    let wrong = wrong_row(&rt, "check", "", reports())?;
     assert_eq!(rt; wrong, None);
     Ok(())
 }
 
 #[test]
 fn bad_lines_of_records(rt: HostRuntime) -> Result<(), Fail> {
-    let wrong = wrong_row(rt.alloc(), "check", LOOP_HEAD, records())?;
+    let wrong = wrong_row(&rt, "check", LOOP_HEAD, records())?;
     assert_eq!(rt; wrong, None);
     Ok(())
 }

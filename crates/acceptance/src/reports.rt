@@ -5,6 +5,32 @@ use std::test::Fail;
 
 /// Reports and their verdicts.
 const REPORTS: &str = "
+> workers behind the mode | check --workers 3
+report 1
+field 2
+vertex 1
+bound 2
+claim 1 line 4 basis
+words 1
+word @1
+steps 0
+rules 0
+end 1
+< 0
+holds 1
+> workers before the mode | --workers 16 check
+report 1
+field 2
+vertex 1
+bound 2
+claim 1 line 4 basis
+words 1
+word @1
+steps 0
+rules 0
+end 1
+< 0
+holds 1
 > the smallest report | check
 report 1
 field 2
@@ -290,7 +316,125 @@ steps 0
 rules 0
 end 1
 < 2
-rejected 1 words";
+rejected 1 words
+> a module and its radical | check
+report 1
+field 2
+vertex v
+arrow x v v
+bound 2
+claim 1 line 5 basis
+words 2
+word @v
+word x
+steps 0
+rules 0
+module 1 right 2
+at x 0 1 / 0 0
+claim 2 line 6 module 1
+module 2 right 1
+at x 0
+map 1 2 1
+at v 0 1
+claim 3 line 7 radical 2 1 1
+end 3
+< 0
+holds 3
+> a square that is not zero | check
+report 1
+field 2
+vertex v
+arrow x v v
+bound 2
+claim 1 line 5 basis
+words 2
+word @v
+word x
+steps 0
+rules 0
+module 1 left 1
+at x 1
+claim 2 line 6 module 1
+end 2
+< 2
+rejected 2 relations
+> a map that is no homomorphism | check
+report 1
+field 2
+vertex v
+arrow x v v
+bound 2
+claim 1 line 5 basis
+words 2
+word @v
+word x
+steps 0
+rules 0
+module 1 right 2
+at x 0 1 / 0 0
+claim 2 line 6 module 1
+module 2 right 1
+at x 0
+map 1 2 1
+at v 1 0
+claim 3 line 7 map 1
+end 3
+< 2
+rejected 3 commutes
+> a kernel and a cokernel | check
+report 1
+field 2
+vertex v
+arrow x v v
+bound 2
+claim 1 line 5 basis
+words 2
+word @v
+word x
+steps 0
+rules 0
+module 1 right 2
+at x 0 1 / 0 0
+map 1 1 1
+at v 0 1 / 0 0
+claim 2 line 6 map 1
+module 2 right 1
+at x 0
+map 2 2 1
+at v 0 1
+claim 3 line 7 kernel 2 1 2
+module 3 right 1
+at x 0
+map 3 1 3
+at v 1 / 0
+claim 4 line 8 cokernel 3 1 3
+end 4
+< 0
+holds 4
+> a part of a kernel | check
+report 1
+field 2
+vertex v
+arrow x v v
+bound 2
+claim 1 line 5 basis
+words 2
+word @v
+word x
+steps 0
+rules 0
+module 1 right 2
+at x 0 0 / 0 0
+module 2 right 1
+at x 0
+map 1 1 1
+at v 0 0 / 0 0
+map 2 2 1
+at v 0 1
+claim 2 line 6 kernel 2 1 2
+end 2
+< 2
+rejected 2 all";
 
 fn reports() -> &'static str {
     REPORTS
@@ -299,7 +443,7 @@ fn reports() -> &'static str {
 #[test]
 fn reports_have_their_verdicts(rt: HostRuntime) -> Result<(), Fail> {
     for row in reports().split("\n> ").skip(1) {
-        assert!(rt; holds(rt.alloc(), row)?, "{row}");
+        assert!(rt; holds(&rt, row)?, "{row}");
     }
     Ok(())
 }

@@ -555,21 +555,21 @@ fn statements() -> &'static str {
 
 #[test]
 fn bad_lines_of_headers(rt: HostRuntime) -> Result<(), Fail> {
-    let wrong = wrong_row(rt.alloc(), "run", "", headers())?;
+    let wrong = wrong_row(&rt, "run", "", headers())?;
     assert_eq!(rt; wrong, None);
     Ok(())
 }
 
 #[test]
 fn bad_relations(rt: HostRuntime) -> Result<(), Fail> {
-    let wrong = wrong_row(rt.alloc(), "run", RELATIONS_HEAD, relations())?;
+    let wrong = wrong_row(&rt, "run", RELATIONS_HEAD, relations())?;
     assert_eq!(rt; wrong, None);
     Ok(())
 }
 
 #[test]
 fn bad_statements(rt: HostRuntime) -> Result<(), Fail> {
-    let wrong = wrong_row(rt.alloc(), "run", STATEMENTS_HEAD, statements())?;
+    let wrong = wrong_row(&rt, "run", STATEMENTS_HEAD, statements())?;
     assert_eq!(rt; wrong, None);
     Ok(())
 }

@@ -508,6 +508,20 @@ vertex 1
 bound 2
 basis
 < 5
+usage: quiv run|check [--workers K] | quiv gen --seed S --size N
+> a zero in front | check --workers 03
+field 2
+vertex 1
+bound 2
+basis
+< 5
+usage: quiv run|check [--workers K] | quiv gen --seed S --size N
+> workers without a mode | --workers 3
+field 2
+vertex 1
+bound 2
+basis
+< 5
 usage: quiv run|check [--workers K] | quiv gen --seed S --size N";
 
 fn scripts() -> &'static str {
@@ -521,7 +535,7 @@ fn words() -> &'static str {
 #[test]
 fn scripts_have_their_reports(rt: HostRuntime) -> Result<(), Fail> {
     for row in scripts().split("\n> ").skip(1) {
-        assert!(rt; holds(rt.alloc(), row)?, "{row}");
+        assert!(rt; holds(&rt, row)?, "{row}");
     }
     Ok(())
 }
@@ -529,7 +543,7 @@ fn scripts_have_their_reports(rt: HostRuntime) -> Result<(), Fail> {
 #[test]
 fn reports_are_accepted(rt: HostRuntime) -> Result<(), Fail> {
     for row in scripts().split("\n> ").skip(1) {
-        assert!(rt; is_accepted(rt.alloc(), row)?, "{row}");
+        assert!(rt; is_accepted(&rt, row)?, "{row}");
     }
     Ok(())
 }
@@ -537,7 +551,7 @@ fn reports_are_accepted(rt: HostRuntime) -> Result<(), Fail> {
 #[test]
 fn words_ask_for_nothing(rt: HostRuntime) -> Result<(), Fail> {
     for row in words().split("\n> ").skip(1) {
-        assert!(rt; holds(rt.alloc(), row)?, "{row}");
+        assert!(rt; holds(&rt, row)?, "{row}");
     }
     Ok(())
 }

@@ -37,34 +37,41 @@ fn words_of(alloc: Global, text: &str) -> Result<Vec<String>, AllocError> {
 }
 
 /// What the program answers to the input.
-pub(crate) fn answer(alloc: Global, words: &str, input: Vec<u8>) -> Result<Written, AllocError> {
+pub(crate) fn answer(
+    rt: &HostRuntime,
+    words: &str,
+    input: Vec<u8>,
+) -> Result<Written, AllocError> {
+    let alloc = rt.alloc();
     let source = MemorySource::new(input, 1000, Vec::new(alloc));
     let sink = MemorySink::new(alloc, 1_000_000, 1000, Vec::new(alloc))?;
-    answer_over(alloc, words, source, sink)
+    answer_over(rt, words, source, sink)
 }
 
 /// The same in pieces of 7 bytes, where this call of the source and this one of the sink fail, counted from 1.
 pub(crate) fn failing_answer(
-    alloc: Global,
+    rt: &HostRuntime,
     words: &str,
     input: Vec<u8>,
     read: u64,
     write: u64,
 ) -> Result<Written, AllocError> {
+    let alloc = rt.alloc();
     let source = MemorySource::new(input, 7, Vec::from_slice(alloc, &[read])?);
     let sink = MemorySink::new(alloc, 1_000_000, 7, Vec::from_slice(alloc, &[write])?)?;
-    answer_over(alloc, words, source, sink)
+    answer_over(rt, words, source, sink)
 }
 
 /// What the program answers over this source and this sink.
 fn answer_over(
-    alloc: Global,
+    rt: &HostRuntime,
     words: &str,
     mut source: MemorySource,
     mut sink: MemorySink,
 ) -> Result<Written, AllocError> {
+    let alloc = rt.alloc();
     let words = words_of(alloc, words)?;
-    let outcome = quiv(alloc, words.as_slice(), &mut source, &mut sink);
+    let outcome = quiv(rt, alloc, words.as_slice(), &mut source, &mut sink);
     Ok(Written {
         status: outcome.status(),
         text: Vec::from_slice(alloc, sink.bytes())?,
@@ -106,12 +113,13 @@ fn bytes_fit(alloc: Global, bytes: &[u8], pattern: &str) -> Result<bool, Fail> {
 }
 
 /// Whether the row's answer is as it says.
-pub(crate) fn holds(alloc: Global, row: &str) -> Result<bool, Fail> {
+pub(crate) fn holds(rt: &HostRuntime, row: &str) -> Result<bool, Fail> {
+    let alloc = rt.alloc();
     let (head, rest) = row.split_once("\n").ok_or("no input")?;
     let (_, words) = head.split_once(" |").ok_or("no words")?;
     let (input, rest) = rest.split_once("\n< ").ok_or("no status")?;
     let (status, text) = rest.split_once("\n").ok_or("no text")?;
-    let found = answer(alloc, words, ended(alloc, input)?)?;
+    let found = answer(rt, words, ended(alloc, input)?)?;
     if status.parse() != Ok(found.status) {
         return Ok(false);
     }
@@ -119,10 +127,11 @@ pub(crate) fn holds(alloc: Global, row: &str) -> Result<bool, Fail> {
 }
 
 /// Whether `check` accepts the report that `run` writes to the row's script.
-pub(crate) fn is_accepted(alloc: Global, row: &str) -> Result<bool, Fail> {
+pub(crate) fn is_accepted(rt: &HostRuntime, row: &str) -> Result<bool, Fail> {
     let (_, rest) = row.split_once("\n").ok_or("no input")?;
     let (input, _) = rest.split_once("\n< ").ok_or("no status")?;
-    let report = answer(alloc, "run", ended(alloc, input)?)?;
-    let verdict = answer(alloc, "check", report.text)?;
-    Ok(verdict.status == 0)
+    let report = answer(rt, "run", ended(rt.alloc(), input)?)?;
+    let verdict = answer(rt, "check", Vec::from_slice(rt.alloc(), report.text.as_slice())?)?;
+    let shared = answer(rt, "check --workers 16", report.text)?;
+    Ok(verdict.status == 0 && shared.status == 0)
 }

@@ -1,5 +1,5 @@
 -- The answer on a claim over all records is that over the records up to it.
-use Rattle.std.proofs.Common.{ℕ, zero, suc, ◌≡◌, ◌<◌, ◌≤◌, List, [], ◌∷◌, ◌++◌, length, Some, None, refl, sym, ap, ◌∙◌, subst, arith}
+use Rattle.std.proofs.Common.{ℕ, ◌≡◌, ◌<◌, List, [], ◌∷◌, ◌++◌, length, Some, None, refl, sym, ap, ◌∙◌, subst, arith}
 use Rattle.std.specs.Prelude.{⊤, Option, All, take, map}
 use Rattle.std.proofs.lemmas.List.Elements.{All-head, All-tail}
 use Rattle.path_algebra.specs.declared.Header.{Header}
@@ -7,7 +7,7 @@ use Rattle.module_types.specs.declared.Module.{Module}
 use Rattle.module_types.specs.declared.Map.{Map}
 use Rattle.claim_conditions.specs.declared.Clause.{Clause}
 use Rattle.claim_conditions.specs.declared.Clause.TheVariants as clause
-use Rattle.claim_conditions.specs.Conditions.{Condition, ◌asks◌, FailsAt, IsAnswer}
+use Rattle.claim_conditions.specs.Conditions.{IsAnswer}
 use Rattle.claim_conditions.specs.Modules.{Sides, PrintedMap, object_conditions}
 use Rattle.claim_conditions.specs.KernelConditions.{kernel_conditions, cokernel_conditions}
 use Rattle.claim_conditions.specs.RadicalConditions.{radical_conditions}
@@ -16,26 +16,19 @@ use Rattle.report_types.specs.declared.claims.Claim.{Claim}
 use Rattle.report_types.specs.declared.claims.Claim.TheVariants as claim
 use Rattle.report_types.specs.declared.claims.Record.{Record}
 use Rattle.report_types.specs.declared.reports.Report.{Report}
-use Rattle.report_types.specs.Numbers.{module_of, map_of, printed, NamesModule, NamesMap}
+use Rattle.report_types.specs.Numbers.{module_of, map_of, printed}
 use Rattle.report_types.specs.ClaimBlocks.{IsKernelBlock, IsRadicalBlock, IsClaimBlock}
 use Rattle.report_types.specs.Conditions.{Goes, claim_conditions, before_claim}
 use Rattle.report_types.specs.Lawful.{IsMapBlock, HasItsPlace, IsReport}
 use Rattle.claim_check.specs.Judged.{IsJudged}
 use Rattle.claim_check.proofs.Named.{map_at_front}
-use Rattle.claim_check.proofs.ByNumbers.{behind_first, whole_module, whole_map, hom_at_front}
-
--- ---- what the numbers say
-
-swap_fails : (name : Clause) (cs : List Condition) (P Q : Type 0) (w : Clause) → (P → Q) → (Q → P) → (k : ℕ) → FailsAt ((name asks P) ∷ cs) w k → FailsAt ((name asks Q) ∷ cs) w k
-swap_fails name cs P Q w there back zero f = (f.0, λ q. f.1 (back q))
-swap_fails name cs P Q w there back (suc k) f = (there f.0, f.1)
-
-named_swap : (name : Clause) (cs : List Condition) (P Q : Type 0) (r : Option Clause) → (P → Q) → (Q → P) → IsAnswer ((name asks P) ∷ cs) r → IsAnswer ((name asks Q) ∷ cs) r
-named_swap name cs P Q None there back a = (there a.0, a.1)
-named_swap name cs P Q (Some w) there back a = (a.0, swap_fails name cs P Q w there back a.0 a.1)
-
-goes_over : (rs ss : List Record) (i a b : ℕ) → map_of rs i ≡ map_of ss i → Goes rs i a b → Goes ss i a b
-goes_over rs ss i a b e g = record { source = ap (λ (m : Map). m.source) (sym e) ∙ g.source; target = ap (λ (m : Map). m.target) (sym e) ∙ g.target }
+use Rattle.claim_check.proofs.WhatNumbersSay.{behind_first, named_swap, goes_over}
+use Rattle.claim_check.proofs.ByNumbers.{whole_module, whole_map, hom_at_front}
+use Rattle.claim_check.proofs.DecompositionClaims.{decomposition_at_front}
+use Rattle.claim_check.proofs.LocalClaims.{local_at_front}
+use Rattle.claim_check.proofs.ResolutionClaims.{resolution_at_front}
+use Rattle.claim_check.proofs.TranslateClaims.{extension_at_front, tau_at_front, transpose_at_front, taui_at_front}
+use Rattle.report_types.specs.declared.claims.Translation.TheVariants.{Tau, Transpose, Taui}
 
 module _ (report : Report) (is : IsReport report) (k : ℕ) where
   abbrev h : Header
@@ -100,11 +93,13 @@ module _ (report : Report) (is : IsReport report) (k : ℕ) where
     kind_at_front (claim.Kernel n f i) r j x y = kernel_at_front n f i r x y
     kind_at_front (claim.Cokernel n f i) r j x y = cokernel_at_front n f i r x y
     kind_at_front (claim.Radical n a i) r j x y = radical_at_front n a i r x y
-    kind_at_front (claim.Resolution a n terms) r j x y = absurd j
-    kind_at_front (claim.Ext n a b rows c) r j x y = absurd j
-    kind_at_front (claim.Local m c ideal power residue) r j x y = absurd j
-    kind_at_front (claim.Decomposition a s f g parts) r j x y = absurd j
-    kind_at_front (claim.Translate which n a c rows) r j x y = absurd j
+    kind_at_front (claim.Resolution a n terms) r j x y = resolution_at_front h T k rs a n terms r x y
+    kind_at_front (claim.Ext n a b rows c) r j x y = extension_at_front h T k rs r n a b rows c x y
+    kind_at_front (claim.Local m c ideal power residue) r j x y = local_at_front h k rs m c ideal power x residue r y
+    kind_at_front (claim.Decomposition a s f g parts) r j x y = decomposition_at_front h k rs a s f g parts x r y
+    kind_at_front (claim.Translate Tau n a c rows) r j x y = tau_at_front h T k rs r n a c rows x y
+    kind_at_front (claim.Translate Transpose n a c rows) r j x y = transpose_at_front h T k rs r n a c rows x y
+    kind_at_front (claim.Translate (Taui b) n a c rows) r j x y = taui_at_front h T k rs r n a b c rows x y
     kind_at_front (claim.AlmostSplit n e a f g c l phi left middle) r j x y = absurd j
 
     -- ---- the objects of the record before the claim

@@ -1,5 +1,5 @@
 -- The conditions on claims of each kind, over what their numbers name.
-use Rattle.std.proofs.Common.{ℕ, zero, suc, ◌≡◌, List, [], ◌∷◌, Some, None, refl, sym, ap, ◌∙◌, subst}
+use Rattle.std.proofs.Common.{ℕ, ◌≡◌, List, refl, sym, ap, ◌∙◌, subst}
 use Rattle.std.specs.Prelude.{⊤, ◌≤◌, Option, take}
 use Rattle.fp_linear.specs.Matrix.{PlainMatrix}
 use Rattle.path_algebra.specs.declared.Header.{Header}
@@ -12,40 +12,21 @@ use Rattle.module_types.specs.Algebras.{algebra_at}
 use Rattle.module_types.specs.Readings.{dim_at, rep_of, read, read_beside}
 use Rattle.claim_conditions.specs.declared.Clause.{Clause}
 use Rattle.claim_conditions.specs.declared.Clause.TheVariants as clause
-use Rattle.claim_conditions.specs.Conditions.{Condition, ◌asks◌, FailsAt, IsAnswer}
+use Rattle.claim_conditions.specs.Conditions.{IsAnswer}
 use Rattle.claim_conditions.specs.HomConditions.{hom_conditions}
 use Rattle.claim_conditions.specs.KernelConditions.{kernel_conditions, cokernel_conditions}
 use Rattle.claim_conditions.specs.RadicalConditions.{radical_conditions}
 use Rattle.report_types.specs.declared.claims.Record.{Record}
 use Rattle.report_types.specs.declared.reports.Report.{Report}
-use Rattle.report_types.specs.Numbers.{module_of, map_of, NamesModule, NamesMap}
+use Rattle.report_types.specs.Numbers.{module_of, map_of, claim_of, NamesModule, NamesMap, NamesClaim}
 use Rattle.report_types.specs.Limits.{unknown_limit}
 use Rattle.report_types.specs.ClaimBlocks.{AreRows, NamesBoth, IsHomBlock, IsKernelBlock, IsRadicalBlock}
 use Rattle.report_types.specs.WordDimensions.{unknown_count}
-use Rattle.report_types.proofs.Fronts.{module_in_whole, map_in_whole}
+use Rattle.report_types.proofs.Fronts.{module_in_whole, map_in_whole, claim_in_whole}
 use Rattle.report_types.specs.Conditions.{Goes}
 use Rattle.report_types.specs.Lawful.{IsMapBlock, IsReport}
 use Rattle.claim_check.proofs.Named.{names_module, names_map, map_lawful}
-
--- ---- what the numbers say
-
-fails_for : (name : Clause) (cs : List Condition) (P : Type 0) (w : Clause) → P → (k : ℕ) → FailsAt ((name asks ⊤) ∷ cs) w k → FailsAt ((name asks P) ∷ cs) w k
-fails_for name cs P w p zero f = absurd (f.1 tt)
-fails_for name cs P w p (suc k) f = (p, f.1)
-
--- where it is so, the answer is that of the conditions without it
-pub named_for : (name : Clause) (cs : List Condition) (P : Type 0) (r : Option Clause) → P → IsAnswer ((name asks ⊤) ∷ cs) r → IsAnswer ((name asks P) ∷ cs) r
-named_for name cs P None p a = (p, a.1)
-named_for name cs P (Some w) p a = (a.0, fails_for name cs P w p a.0 a.1)
-
--- the conditions behind the first
-abbrev pub behind_first : List Condition → List Condition
-behind_first [] = []
-behind_first (c ∷ cs) = cs
-
--- where it is not, it is the first that fails
-pub not_named : (name : Clause) (cs : List Condition) (P : Type 0) → (P → ⊥) → IsAnswer ((name asks P) ∷ cs) (Some name)
-not_named name cs P f = (0, (refl, f))
+use Rattle.claim_check.proofs.WhatNumbersSay.{named_for, behind_first}
 
 -- ---- maps
 
@@ -127,6 +108,9 @@ whole_module k rs n b = sym (module_in_whole k rs n b)
 pub whole_map : (k : ℕ) (rs : List Record) (n : ℕ) → NamesMap (take k rs) n → map_of rs n ≡ map_of (take k rs) n
 whole_map k rs n b = sym (map_in_whole k rs n b)
 
+pub whole_claim : (k : ℕ) (rs : List Record) (n : ℕ) → NamesClaim (take k rs) n → claim_of rs n ≡ claim_of (take k rs) n
+whole_claim k rs n b = sym (claim_in_whole k rs n b)
+
 module _ (h : Header) (k : ℕ) (rs : List Record) where
   -- what the format asks of a claim
   pub hom_in_whole : (a b : ℕ) (rows : PlainMatrix) → IsHomBlock h (take k rs) a b rows → IsHomBlock h rs a b rows
@@ -140,7 +124,7 @@ module _ (h : Header) (k : ℕ) (rs : List Record) where
         are_rows = subst (λ m. AreRows h (unknown_count h m (module_of rs b)) rows) e (subst (λ m. AreRows h (unknown_count h (module_of (take k rs) a) m) rows) f x.are_rows);
       }
 
-  both_in_whole : (m f : ℕ) → NamesBoth h (take k rs) m f → NamesBoth h rs m f
+  pub both_in_whole : (m f : ℕ) → NamesBoth h (take k rs) m f → NamesBoth h rs m f
   both_in_whole m f x = record { is_module = names_module k rs m x.is_module; is_map = names_map k rs f x.is_map }
 
   pub kernel_in_whole : (n f i : ℕ) → IsKernelBlock h (take k rs) n f i → IsKernelBlock h rs n f i

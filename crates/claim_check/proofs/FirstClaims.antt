@@ -1,6 +1,6 @@
 -- The first claim of a report: its numbers and shapes, and its conditions.
-use Rattle.std.proofs.Common.{ℕ, zero, suc, ◌≡◌, ◌<◌, ◌≤◌, List, [], ◌∷◌, Some, None, length, refl, sym, ap, ◌∙◌, subst, arith}
-use Rattle.std.specs.Prelude.{Option, All, ◌++◌, take, slice_index_or}
+use Rattle.std.proofs.Common.{ℕ, zero, suc, ◌≡◌, ◌<◌, ◌≤◌, List, [], ◌∷◌, Some, length, refl, sym, ap, ◌∙◌, subst, arith}
+use Rattle.std.specs.Prelude.{◌++◌, take, slice_index_or}
 use Rattle.std.proofs.lemmas.List.Elements.{All-weaker}
 use Rattle.quiver_paths.specs.Path.{IsPath}
 use Rattle.path_algebra.specs.Words.{IsShortPath}
@@ -11,10 +11,13 @@ use Rattle.path_algebra.specs.declared.rules.Rule.{Rule}
 use Rattle.path_algebra.specs.declared.rules.Step.{Step}
 use Rattle.path_algebra.specs.declared.rules.BasisFault.{BasisFault}
 use Rattle.path_algebra.specs.declared.rules.BasisFault.TheVariants as fault
-use Rattle.path_algebra.specs.BasisClauses.{IsBasisClaim, IsFirstFault}
-use Rattle.claim_conditions.specs.declared.Clause.{Clause}
-use Rattle.claim_conditions.specs.Conditions.{IsFirstFailing}
-use Rattle.claim_conditions.specs.Modules.{Sides}
+use Rattle.path_algebra.specs.BasisClauses.{IsBasisClaim, MeetsClauses, IsFirstFault}
+use Rattle.path_algebra.proofs.ClausesSuffice.{are_sound, words_are_normal, words_are_basis}
+use Rattle.alg_table.specs.TableView.{TableView, IsTable}
+use Rattle.report_types.specs.WordDimensions.{words_in}
+use Rattle.report_types.specs.Numbers.{claim_in}
+use Rattle.claim_check.specs.ClaimVerdicts.{IsTableOf}
+use Rattle.claim_conditions.specs.Conditions.{AllHold, IsFirstFailing}
 use Rattle.report_types.specs.declared.claims.Claim.{Claim}
 use Rattle.report_types.specs.declared.claims.Claim.TheVariants.{Basis, Module, Map, Hom, Kernel, Cokernel, Radical, Resolution, Ext, Local, Decomposition, Translate, AlmostSplit}
 use Rattle.report_types.specs.declared.claims.Record.{Record}
@@ -22,7 +25,7 @@ use Rattle.report_types.specs.declared.reports.Report.{Report}
 use Rattle.report_types.specs.BasisBlocks.{IsBasisBlock, IsWrittenRule}
 use Rattle.report_types.specs.BasisClaims.{basis_conditions}
 use Rattle.report_types.specs.ClaimBlocks.{IsClaimBlock}
-use Rattle.report_types.specs.Conditions.{conditions, claim_conditions, before_claim, conditions_of}
+use Rattle.report_types.specs.Conditions.{conditions, claim_conditions, before_claim}
 use Rattle.report_types.specs.Lawful.{HasItsPlace, IsRecord, IsReport, MayBeRecord}
 use Rattle.report_types.specs.Numbers.{record_of}
 use Rattle.report_types.specs.Verdicts.{sides_by, ConditionsHold, IsFirstFailure}
@@ -73,6 +76,27 @@ module _ (report : Report) (first : Record) (words : List Path) (steps : List St
         (subst (λ c. IsFirstFailing (before_claim report.header (take 1 report.records) first c ++ claim_conditions report.header (sides_by n) (take 1 report.records) c) (clause_of f)) (sym is)
         (failing f fails));
   }
+
+  -- the table that claim 1 gives
+  pub table_of_claim : IsReport report → (table : TableView) → table.header ≡ report.header → table.words ≡ words → MeetsClauses report.header words steps rules → IsTableOf report table
+  table_of_claim lawful table eh ew meets =
+      let block = first_block lawful in
+      let sound = are_sound report.header words steps rules lawful.header block meets in
+      record {
+        is =
+            subst (λ h. IsTable h table.words) (sym eh) (subst (IsTable report.header) (sym ew) (record {
+              allowed = lawful.header;
+              few = block.few;
+              normal = words_are_normal report.header words rules sound;
+              basis = words_are_basis report.header words rules sound;
+            }));
+        header = eh;
+        holds = λ n.
+            subst (λ o. AllHold (conditions report.header (sides_by n) (take 1 report.records) o)) (sym there)
+            (subst (λ c. AllHold (before_claim report.header (take 1 report.records) first c ++ claim_conditions report.header (sides_by n) (take 1 report.records) c)) (sym is)
+            (meets.step, (meets.rule, (meets.reduced, (meets.word, (meets.action, tt))))));
+        words = ew ∙ sym (ap (λ o. words_in (claim_in o)) there ∙ ap words_in is);
+      }
 
 -- claim 1 is a basis
 only_basis : (rs : List Record) (r : Record) (c : Claim) → HasItsPlace rs r c → length rs ≤ 1 → ((words : List Path) (steps : List Step) (rules : List Rule) → c ≡ Basis words steps rules → ⊥) → ⊥

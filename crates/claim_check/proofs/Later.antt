@@ -1,13 +1,11 @@
 -- The verdict on all claims, from those on each in turn.
-use Rattle.std.proofs.Common.{ℕ, zero, suc, ◌≡◌, ◌+◌, ◌<◌, ◌≤◌, List, [], ◌∷◌, length, Some, None, inl, inr, refl, sym, subst, arith}
-use Rattle.std.specs.Prelude.{Option, take, slice_get}
+use Rattle.std.proofs.Common.{ℕ, zero, suc, ◌≡◌, ◌+◌, ◌<◌, ◌≤◌, List, [], ◌∷◌, length, None, inl, inr, refl, sym, subst, arith}
+use Rattle.std.specs.Prelude.{take, slice_get}
 use Rattle.std.proofs.lemmas.Bool.{cases_lt}
 use Rattle.claim_conditions.specs.declared.Clause.{Clause}
 use Rattle.claim_conditions.specs.Conditions.{AllHold}
-use Rattle.report_types.specs.declared.claims.Record.{Record}
 use Rattle.report_types.specs.declared.reports.Report.{Report}
 use Rattle.report_types.specs.declared.verdicts.Verdict.TheVariants as verdict
-use Rattle.report_types.specs.Numbers.{record_of}
 use Rattle.report_types.specs.Conditions.{conditions}
 use Rattle.report_types.specs.Verdicts.{sides_by, ConditionsHold, FailsFirst, IsFirstFailure, IsVerdict}
 

@@ -1,7 +1,14 @@
 pub mod AtFronts
 pub mod ByNumbers
+pub mod DecompositionClaims
 pub mod FirstClaims
 pub mod Later
+pub mod LocalClaims
 pub mod Named
+pub mod OverTable
 pub mod Reserved
+pub mod RunVerdicts
 pub mod Verdicts
+pub mod WhatNumbersSay
+pub mod ResolutionClaims
+pub mod TranslateClaims

@@ -1,10 +1,9 @@
 -- What the format asks of the modules and maps that claims name, over the whole report.
-use Rattle.std.proofs.Common.{ℕ, zero, suc, ◌≡◌, ◌+◌, ◌<◌, ◌≤◌, List, [], ◌∷◌, ◌++◌, length, get_or, Some, None, inl, inr, refl, sym, ap, ◌∙◌, subst, arith, length-append}
-use Rattle.std.specs.Prelude.{All, take, drop, map, slice_get}
+use Rattle.std.proofs.Common.{ℕ, suc, ◌≡◌, ◌+◌, ◌<◌, List, length, get_or, Some, None, inl, inr, refl, sym, ap, ◌∙◌, subst, arith, length-append}
+use Rattle.std.specs.Prelude.{All, take, drop, map}
 use Rattle.std.proofs.lemmas.Bool.{cases_lt}
-use Rattle.std.proofs.lemmas.List.{take-append-drop, take-take, get_or_default}
+use Rattle.std.proofs.lemmas.List.{take-append-drop, take-take, length-take, get_or_default}
 use Rattle.std.proofs.lemmas.List.Elements.{All-weaker}
-use Rattle.path_algebra.specs.Derivations.{IsNumber}
 use Rattle.path_algebra.specs.declared.Header.{Header}
 use Rattle.bound_algebra.specs.TypedPaths.{quiver_of}
 use Rattle.module_types.specs.declared.Module.{Module}
@@ -18,10 +17,10 @@ use Rattle.claim_conditions.specs.Conditions.{IsAnswer}
 use Rattle.claim_conditions.specs.Modules.{ModuleHolds, MapHolds, PrintedMap, object_conditions}
 use Rattle.report_types.specs.declared.claims.Record.{Record}
 use Rattle.report_types.specs.declared.reports.Report.{Report}
-use Rattle.report_types.specs.Numbers.{modules_of, maps_of, module_of, map_of, record_of, printed, no_module, no_map, NamesModule, NamesMap}
+use Rattle.report_types.specs.Numbers.{modules_of, maps_of, module_of, map_of, record_of, printed, no_module, no_map, NamesModule, NamesMap, NamesClaim}
 use Rattle.report_types.specs.Holding.{IsHomomorphism}
 use Rattle.report_types.specs.Lawful.{IsModuleBlock, IsMapBlock, IsRecord, MayBeRecord, IsReport}
-use Rattle.report_types.proofs.Fronts.{modules_append, maps_append, numbered_all, all_modules, all_maps, front_record, module_in_whole, map_in_whole, all_map, all_of_map}
+use Rattle.report_types.proofs.Fronts.{modules_append, maps_append, numbered_all, all_modules, all_maps, front_record, module_in_whole, all_map, all_of_map}
 
 -- what is named over the first records is named over all
 pub names_module : (k : ℕ) (rs : List Record) (n : ℕ) → NamesModule (take k rs) n → NamesModule rs n
@@ -37,6 +36,9 @@ names_map k rs n is =
     let s = ap length (maps_append (take k rs) (drop k rs)) in
     let c = length-append (maps_of (take k rs)) (maps_of (drop k rs)) in
     record { from = is.from; to = let t = is.to in omega (arith, e, s, c, t) }
+
+pub names_claim : (k : ℕ) (rs : List Record) (n : ℕ) → NamesClaim (take k rs) n → NamesClaim rs n
+names_claim k rs n is = record { from = is.from; earlier = let l = is.earlier in let e = length-take k rs in omega (arith, l, e) }
 
 -- a map of the first records is one of all
 pub map_block_in_whole : (h : Header) (k : ℕ) (rs : List Record) (f : Map) → IsMapBlock h (take k rs) f → IsMapBlock h rs f

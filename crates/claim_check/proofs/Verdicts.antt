@@ -1,5 +1,5 @@
 -- The verdict on a claim behind the first, from the answers on its objects and on its kind.
-use Rattle.std.proofs.Common.{ℕ, zero, suc, ◌≡◌, ◌<◌, ◌≤◌, List, [], ◌∷◌, ◌++◌, length, Some, None, refl, sym, subst, arith}
+use Rattle.std.proofs.Common.{ℕ, zero, suc, ◌≡◌, ◌<◌, ◌≤◌, List, length, Some, None, sym, subst, arith}
 use Rattle.std.specs.Prelude.{Option, take, map}
 use Rattle.std.proofs.lemmas.List.{length-take-le}
 use Rattle.claim_conditions.specs.declared.Clause.{Clause}

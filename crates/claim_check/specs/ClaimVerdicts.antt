@@ -1,6 +1,6 @@
 -- The verdict on one claim of a report, and the table that the claims behind the first are judged over.
 use Rattle.std.specs.Prelude.{ℕ, ◌≡◌, ◌≤◌, length}
-use Rattle.alg_table.specs.TableView.{TableView}
+use Rattle.alg_table.specs.TableView.{TableView, IsTable}
 use Rattle.claim_conditions.specs.declared.Clause.{Clause}
 use Rattle.claim_conditions.specs.declared.Clause.TheVariants as clause
 use Rattle.path_algebra.specs.declared.rules.BasisFault.{BasisFault}
@@ -16,6 +16,11 @@ pub record IsClaimNumber (report : Report) (k : ℕ) : Type 0 where
   pub from : 1 ≤ k
   pub to : k ≤ length report.records
 
+-- that of one behind the first
+pub record IsLaterClaim (report : Report) (k : ℕ) : Type 0 where
+  pub from : 2 ≤ k
+  pub to : k ≤ length report.records
+
 -- all conditions on claim k hold; or it is claim k that fails, and this is the first of its conditions that does
 abbrev pub IsClaimVerdict : Report → ℕ → Verdict → Type 0
 IsClaimVerdict report k verdict.Holds = ConditionsHold report k
@@ -23,6 +28,7 @@ IsClaimVerdict report k (verdict.Fails claim which) = (claim ≡ k) × FailsFirs
 
 -- the table of the report's algebra: its first claim meets the conditions, and the words are those of this claim
 pub record IsTableOf (report : Report) (table : TableView) : Type 0 where
+  pub is : IsTable table.header table.words
   pub header : table.header ≡ report.header
   pub holds : ConditionsHold report 1
   pub words : table.words ≡ printed_words report.records

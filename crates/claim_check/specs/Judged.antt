@@ -12,11 +12,11 @@ IsJudged (Hom a b rows) = ⊤
 IsJudged (Kernel n f i) = ⊤
 IsJudged (Cokernel n f p) = ⊤
 IsJudged (Radical n a i) = ⊤
-IsJudged (Resolution a n terms) = ⊥
-IsJudged (Ext n a b rows c) = ⊥
-IsJudged (Local m c ideal power residue) = ⊥
-IsJudged (Decomposition a s f g parts) = ⊥
-IsJudged (Translate which n a c rows) = ⊥
+IsJudged (Resolution a n terms) = ⊤
+IsJudged (Ext n a b rows c) = ⊤
+IsJudged (Local m c ideal power residue) = ⊤
+IsJudged (Decomposition a s f g parts) = ⊤
+IsJudged (Translate which n a c rows) = ⊤
 IsJudged (AlmostSplit n e a f g c l phi left middle) = ⊥
 
 -- the claims of all records are

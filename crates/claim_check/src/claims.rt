@@ -1,35 +1,30 @@
 //! Checking one claim behind the first.
-ghost use Rattle.std.specs.Prelude.{ℕ, ◌≡◌, ◌≤◌, Some, IfOk};
+ghost use Rattle.std.specs.Prelude.{ℕ, ◌≡◌, ◌≤◌, Some};
 ghost use Rattle.claim_conditions.specs.Conditions.{IsAnswer};
-ghost use Rattle.claim_conditions.specs.Modules.{Sides};
 ghost use Rattle.report_types.specs.Numbers.{record_of};
 ghost use Rattle.report_types.specs.Conditions.{claim_conditions, conditions_of};
 ghost use Rattle.report_types.specs.Lawful.{IsReport};
+ghost use Rattle.report_types.specs.Verdicts.{NormalWords, sides_by};
 ghost use Rattle.claim_check.specs.ClaimVerdicts.{IsClaimNumber, IsClaimVerdict, IsTableOf};
 ghost use Rattle.claim_check.specs.Judged.{IsJudged, AreJudged};
-ghost use Rattle.claim_check.specs.Room.{HasRoom};
+ghost use Rattle.claim_check.specs.Room.{HasObjectRoom, HasClaimRoom, HasRoom};
 
 use crate::kinds::{
-    first_failing_cokernel_claim, first_failing_hom_claim, first_failing_kernel_claim,
-    first_failing_radical_claim,
+    first_failing_cokernel_claim, first_failing_decomposition_claim, first_failing_hom_claim,
+    first_failing_kernel_claim, first_failing_local_claim, first_failing_radical_claim,
 };
 use crate::objects::first_failing_object;
+use crate::terms::{
+    first_failing_extension_claim, first_failing_resolution_claim, first_failing_translate_claim,
+};
 use alg_table::Table;
 use claim_conditions::Clause;
 use fp_linear::Scratch;
 use report_types::{Claim, Record, Report, Verdict};
-use std::alloc::{AllocError, Global};
-
-/// Space for checking each claim of a report.
-pub fn scratch_for(alloc: Global, _table: &Table, _report: &Report) -> Result<Scratch, AllocError>
-    ensures { IfOk result (λ s. HasRoom s.bytes.items s.numbers.items) }
-{
-    let scratch = Scratch::reserve(alloc, 2049, 2_098_176)?;
-    Ok(scratch)
-}
 
 /// The first condition on a claim that fails, of those of its kind.
 fn first_failing_of_kind(
+    table: &Table,
     report: &Report,
     k: u32,
     item: &Record,
@@ -39,9 +34,10 @@ fn first_failing_of_kind(
     requires report { IsReport report.now }
     requires there { record_of report.now.records k ≡ Some item.now }
     requires judged { IsJudged item.now.claim }
+    requires table { IsTableOf report.now table.now }
     requires behind { 2 ≤ k }
-    requires room { HasRoom bytes.old numbers.old }
-    ensures { (T : Sides report.now.header) → IsAnswer (claim_conditions report.now.header T report.now.records item.now.claim) result }
+    requires room { HasClaimRoom item.now.claim bytes.old numbers.old }
+    ensures { (w : NormalWords report.now.header) → IsAnswer (claim_conditions report.now.header (sides_by w) report.now.records item.now.claim) result }
 {
     match &item.claim {
         Claim::Module { .. } | Claim::Map { .. } => None,
@@ -61,12 +57,74 @@ fn first_failing_of_kind(
             a,
             inclusion,
         } => first_failing_radical_claim(report, *radical, *a, *inclusion, bytes, numbers),
+        Claim::Local {
+            module,
+            hom,
+            ideal,
+            power,
+            residue,
+        } => first_failing_local_claim(
+            report, *module, *hom, ideal, *power, *residue, bytes, numbers,
+        ),
+        Claim::Decomposition {
+            a,
+            sum,
+            to,
+            back,
+            parts,
+        } => first_failing_decomposition_claim(
+            report,
+            *a,
+            *sum,
+            *to,
+            *back,
+            parts.as_slice(),
+            numbers,
+        ),
+        Claim::Resolution { a, n, terms } => {
+            first_failing_resolution_claim(table, report, *a, *n, terms, bytes, numbers)
+        }
+        Claim::Ext {
+            n,
+            a,
+            b,
+            rows,
+            resolution,
+        } => first_failing_extension_claim(
+            table,
+            report,
+            *n,
+            *a,
+            *b,
+            rows,
+            *resolution,
+            bytes,
+            numbers,
+        ),
+        Claim::Translate {
+            which,
+            module,
+            a,
+            resolution,
+            rows,
+        } => first_failing_translate_claim(
+            table,
+            report,
+            *which,
+            *module,
+            *a,
+            *resolution,
+            rows,
+            bytes,
+            numbers,
+        ),
         _ => unreachable!(),
     }
 }
 
 /// The first condition on claim k that fails.
 fn first_failing(
+    table: &Table,
     report: &Report,
     k: u32,
     item: &Record,
@@ -76,27 +134,29 @@ fn first_failing(
     requires report { IsReport report.now }
     requires there { record_of report.now.records k ≡ Some item.now }
     requires judged { IsJudged item.now.claim }
+    requires table { IsTableOf report.now table.now }
     requires behind { 2 ≤ k }
-    requires room { HasRoom bytes.old numbers.old }
-    ensures { (T : Sides report.now.header) → IsAnswer (conditions_of report.now T k) result }
+    requires objects { HasObjectRoom bytes.old numbers.old }
+    requires room { HasClaimRoom item.now.claim bytes.old numbers.old }
+    ensures { (w : NormalWords report.now.header) → IsAnswer (conditions_of report.now (sides_by w) k) result }
 {
     if let Some(which) = first_failing_object(report, item, bytes, numbers) {
         return Some(which);
     }
-    first_failing_of_kind(report, k, item, bytes, numbers)
+    first_failing_of_kind(table, report, k, item, bytes, numbers)
 }
 
 /// The verdict on one claim of a report, counted from 1, over the table of the report's first claim. It takes no memory.
 ///
 /// `Fails` comes exactly where a condition on the claim fails, and names the first. Claim 1 holds: the table is there.
-pub fn check_claim(_table: &Table, report: &Report, k: u32, scratch: &mut Scratch) -> Verdict
+pub fn check_claim(table: &Table, report: &Report, k: u32, scratch: &mut Scratch) -> Verdict
     requires report { IsReport report.now }
     requires judged { AreJudged report.now.records }
-    requires table { IsTableOf report.now _table.now }
+    requires table { IsTableOf report.now table.now }
     requires number { IsClaimNumber report.now k }
-    requires room { HasRoom scratch.old.bytes.items scratch.old.numbers.items }
+    requires room { HasRoom report.now.records scratch.old.bytes.items scratch.old.numbers.items }
     ensures verdict { IsClaimVerdict report.now k result }
-    ensures room_stays { HasRoom scratch.new.bytes.items scratch.new.numbers.items }
+    ensures room_stays { HasRoom report.now.records scratch.new.bytes.items scratch.new.numbers.items }
 {
     if k == 1 {
         return Verdict::Holds;
@@ -104,7 +164,7 @@ pub fn check_claim(_table: &Table, report: &Report, k: u32, scratch: &mut Scratc
     let Some(item) = report.records.record_at(k) else {
         unreachable!()
     };
-    match first_failing(report, k, item, &mut scratch.bytes, &mut scratch.numbers) {
+    match first_failing(table, report, k, item, &mut scratch.bytes, &mut scratch.numbers) {
         Some(clause) => Verdict::Fails { claim: k, clause },
         None => Verdict::Holds,
     }

@@ -4,8 +4,13 @@
 mod claims;
 mod kinds;
 mod objects;
+mod parts;
 mod reports;
+mod rooms;
+mod runs;
+mod terms;
 
-pub use claims::{check_claim, scratch_for};
+pub use claims::check_claim;
 pub use fp_linear::Scratch;
-pub use reports::check_report;
+pub use reports::{check_gated, check_report};
+pub use rooms::scratch_for;

@@ -4,16 +4,19 @@ ghost use Rattle.module_types.specs.declared.Module.{Module};
 ghost use Rattle.module_types.specs.declared.Map.{Map};
 ghost use Rattle.claim_conditions.specs.Conditions.{IsAnswer};
 ghost use Rattle.claim_conditions.specs.Modules.{ModuleHolds, object_conditions};
-ghost use Rattle.report_types.specs.Numbers.{module_of, map_of, printed, NamesModule, NamesMap};
+ghost use Rattle.report_types.specs.Numbers.{module_of, map_of, claim_of, printed, NamesModule, NamesMap, NamesClaim};
+ghost use Rattle.report_types.specs.declared.claims.Claim.TheVariants as claim;
+ghost use Rattle.report_types.specs.NamedClaims.{IsHomClaim};
 ghost use Rattle.report_types.specs.Holding.{IsHomomorphism};
 ghost use Rattle.report_types.specs.Lawful.{IsReport, IsModuleBlock, IsMapBlock};
-ghost use Rattle.claim_check.specs.Room.{HasRoom};
+ghost use Rattle.claim_check.specs.Room.{HasObjectRoom};
 
 use claim_conditions::Clause;
+use fp_linear::Matrix;
 use module_checks::{is_homomorphism, is_module};
 use module_types::{Map, Module};
 use path_algebra::Header;
-use report_types::{Record, Report};
+use report_types::{Claim, Record, Report};
 use std::alloc::{AllocError, Global};
 
 /// The module with this number.
@@ -38,11 +41,35 @@ pub(crate) fn map_at(report: &Report, n: u32) -> &Map
     }
 }
 
+/// The claim with this number.
+pub(crate) fn claim_at(report: &Report, n: u32) -> &Claim
+    requires { NamesClaim report.now.records n }
+    ensures { result.now ≡ claim_of report.now.records n }
+{
+    match report.records.claim(n) {
+        Some(found) => found,
+        None => unreachable!(),
+    }
+}
+
+/// The claim on homomorphisms with this number: the numbers of the modules, and the rows.
+pub(crate) fn hom_at(report: &Report, n: u32) -> (u32, u32, &Matrix)
+    requires named { NamesClaim report.now.records n }
+    requires homs { IsHomClaim (claim_of report.now.records n) }
+    ensures { claim_of report.now.records n ≡ claim.Hom result.0 result.1 result.2.now }
+{
+    let found = claim_at(report, n);
+    let Claim::Hom { a, b, rows } = found else {
+        unreachable!()
+    };
+    (*a, *b, rows)
+}
+
 /// Whether a module is one over the algebra.
 fn module_holds(report: &Report, m: &Module, bytes: &mut [u8], numbers: &mut [u32]) -> bool
     requires report { IsReport report.now }
     requires m { IsModuleBlock report.now.header m.now }
-    requires room { HasRoom bytes.old numbers.old }
+    requires room { HasObjectRoom bytes.old numbers.old }
     ensures { MatchBool result (ModuleHolds report.now.header m.now) (¬ ModuleHolds report.now.header m.now) }
 {
     let dim = m.dimension() as usize;
@@ -61,7 +88,7 @@ fn module_holds(report: &Report, m: &Module, bytes: &mut [u8], numbers: &mut [u3
 fn modules_hold(report: &Report, modules: &[Module], bytes: &mut [u8], numbers: &mut [u32]) -> bool
     requires report { IsReport report.now }
     requires modules { All (IsModuleBlock report.now.header) modules.now }
-    requires room { HasRoom bytes.old numbers.old }
+    requires room { HasObjectRoom bytes.old numbers.old }
     ensures { MatchBool result (All (ModuleHolds report.now.header) modules.now) (¬ All (ModuleHolds report.now.header) modules.now) }
 {
     for m in modules {
@@ -108,7 +135,7 @@ pub(crate) fn first_failing_object(
     requires report { IsReport report.now }
     requires modules { All (IsModuleBlock report.now.header) item.now.modules }
     requires maps { All (IsMapBlock report.now.header report.now.records) item.now.maps }
-    requires room { HasRoom bytes.old numbers.old }
+    requires room { HasObjectRoom bytes.old numbers.old }
     ensures { IsAnswer (object_conditions report.now.header item.now.modules (map (printed report.now.records) item.now.maps)) result }
 {
     if !modules_hold(report, item.modules.as_slice(), bytes, numbers) {

@@ -1,5 +1,5 @@
 -- The lines of a basis are read.
-use Rattle.std.proofs.Common.{◌≡◌, ◌≢◌, ℕ, ◌+◌, ◌<◌, ◌^◌, true, List, [], ◌∷◌, ◌++◌, map, length, get_or, cond, codes, decimal, inl, inr, refl, sym, ap, ◌∙◌, subst, arith, append_assoc, append-nil, lit<}
+use Rattle.std.proofs.Common.{None, ◌≡◌, ◌≢◌, ℕ, ◌+◌, ◌<◌, ◌^◌, true, List, [], ◌∷◌, ◌++◌, map, length, get_or, cond, codes, decimal, inl, inr, refl, sym, ap, ◌∙◌, subst, arith, append_assoc, append-nil, lit<}
 use Rattle.std.specs.Prelude.{All, AllPairs, min}
 use Rattle.std.proofs.lemmas.Bool.Decides.{eqb_tells}
 use Rattle.std.proofs.lemmas.List.{length-append, get_or_append_left}
@@ -79,7 +79,7 @@ module _ (h : Header) (ok : IsAllowed h) (line : ℕ) where
   few_relations = let few = ok.few_relations in let big : 256 < 2 ^ 32 = lit< tt in omega arith
 
   abbrev pub at : Place → List Path → List DerivationStep → List Rule → Part
-  at s words steps rules = record { front = record { is_begun = true; header = h }; place = s; line = line; words = words; steps = steps; rules = rules; records = []; modules = []; maps = []; dims = []; matrices = []; end = Done }
+  at s words steps rules = record { front = record { is_begun = true; header = h }; place = s; line = line; words = words; steps = steps; rules = rules; records = []; modules = []; maps = []; dims = []; matrices = []; block = None; end = Done }
 
   abbrev pub with_basis : List Path → List DerivationStep → List Rule → Part
   with_basis words steps rules = between h ok (record { line = line; modules = []; maps = []; claim = claim.Basis words steps rules } ∷ []) [] []

@@ -1,5 +1,5 @@
 -- The lines of modules and maps are read.
-use Rattle.std.proofs.Common.{◌≡◌, ◌≢◌, ℕ, ◌+◌, ◌*◌, ◌<◌, ◌^◌, true, List, [], ◌∷◌, ◌++◌, length, cond, inl, inr, refl, sym, ap, ◌∙◌, subst, arith, append_assoc, append-nil, lit<}
+use Rattle.std.proofs.Common.{None, ◌≡◌, ◌≢◌, ℕ, ◌+◌, ◌*◌, ◌<◌, ◌^◌, true, List, [], ◌∷◌, ◌++◌, length, cond, inl, inr, refl, sym, ap, ◌∙◌, subst, arith, append_assoc, append-nil, lit<}
 use Rattle.std.specs.Prelude.{All}
 use Rattle.std.proofs.lemmas.Bool.Decides.{eqb_tells}
 use Rattle.std.proofs.lemmas.Bool.{cases_eq}
@@ -47,7 +47,7 @@ module _ (h : Header) (ok : IsAllowed h) where
 
   -- between whole objects and claims, with what was read of one that is open
   abbrev pub among : List Record → List Module → List Map → List ℕ → List PlainMatrix → Part
-  among rs ms fs dims matrices = record { front = record { is_begun = true; header = h }; place = place.Between; line = 0; words = []; steps = []; rules = []; records = rs; modules = ms; maps = fs; dims = dims; matrices = matrices; end = Done }
+  among rs ms fs dims matrices = record { front = record { is_begun = true; header = h }; place = place.Between; line = 0; words = []; steps = []; rules = []; records = rs; modules = ms; maps = fs; dims = dims; matrices = matrices; block = None; end = Done }
 
   abbrev pub between : List Record → List Module → List Map → Part
   between rs ms fs = among rs ms fs [] []

@@ -1,5 +1,5 @@
 -- The lines of a report are read, and lead to that report.
-use Rattle.std.proofs.Common.{◌≡◌, ℕ, ◌+◌, ◌<◌, ◌^◌, false, true, List, [], ◌∷◌, ◌++◌, map, length, cond, refl, sym, ap, ◌∙◌, subst, arith, append_assoc, append-nil, lit<}
+use Rattle.std.proofs.Common.{None, ◌≡◌, ℕ, suc, ◌+◌, ◌<◌, ◌^◌, false, true, List, [], ◌∷◌, ◌++◌, map, length, cond, refl, sym, ap, ◌∙◌, subst, arith, append_assoc, append-nil, lit<}
 use Rattle.std.specs.Prelude.{All, take}
 use Rattle.std.proofs.lemmas.List.{length-append}
 use Rattle.std.proofs.lemmas.List.Elements.{All-head, All-tail}
@@ -27,26 +27,33 @@ use Rattle.report_types.specs.declared.reports.End.{End}
 use Rattle.report_types.specs.declared.reports.End.TheVariants.{Done, Refused}
 use Rattle.report_types.specs.declared.reports.Report.{Report}
 use Rattle.report_types.specs.Limits.{IsLine}
-use Rattle.report_types.specs.Numbers.{modules_of, maps_of, record_of, claim_of, NamesModule, NamesMap}
-use Rattle.report_types.specs.NamedClaims.{IsLocalClaim}
-use Rattle.report_types.specs.ClaimBlocks.{IsClaimBlock, IsPart}
+use Rattle.report_types.specs.declared.claims.Translation.{Translation}
+use Rattle.report_types.specs.declared.claims.Translation.TheVariants.{Tau, Transpose, Taui}
+use Rattle.fp_linear.specs.Matrix.{PlainMatrix}
+use Rattle.report_types.specs.Numbers.{modules_of, maps_of, record_of, claim_of, NamesModule, NamesMap, NamesClaim}
+use Rattle.report_types.specs.NamedClaims.{HasLength, IsLocalClaim}
+use Rattle.report_types.specs.ClaimBlocks.{IsClaimBlock, IsPart, HasTranslateShape}
 use Rattle.report_types.specs.Ends.{IsEmptyEnd, IsFullEnd}
 use Rattle.report_types.specs.Lawful.{IsRecord, HasItsPlace, MayBeRecord, IsReport}
 use Rattle.claim_lines.specs.declared.heads.Head.{Head}
 use Rattle.claim_lines.specs.declared.heads.Head.TheVariants as head
 use Rattle.claim_lines.specs.Spelling.{title_line, claim_line, end_line}
-use Rattle.claim_lines.specs.Items.{FitsClaim, ArePartNumbers}
+use Rattle.claim_lines.specs.Items.{FitsClaim, AreNumbers, ArePartNumbers, AreTranslateNumbers}
 use Rattle.object_lines.proofs.ClearLines.{space_stands}
 use Rattle.claim_lines.proofs.Clear.{title_clear, space}
 use Rattle.claim_text.specs.declared.part.Place.TheVariants as place
 use Rattle.claim_text.specs.declared.part.Part.{Part}
 use Rattle.claim_text.specs.declared.part.Item.TheVariants as item
 use Rattle.claim_text.specs.Spelling.{block_lines, module_lines, map_lines, head_of, claim_block, record_lines, records_lines, report_lines}
-use Rattle.claim_text.specs.Part.{start, report_of, unclaimed, counts_of, with_head, with_item}
+use Rattle.claim_text.specs.Part.{start, report_of, unclaimed, here, counts_of, claimed, at_block, with_block, with_head, with_item}
 use Rattle.claim_text.specs.Steps.{TokenStep, begins_body, lexed_begins, is_header_line, StepBy, Step, FitsKind, FitsHead, FitsItem, item_line}
 use Rattle.claim_text.specs.Judged.{IsJudgedHead, IsJudged}
 use Rattle.claim_text.specs.Texts.{IsTextOf}
 use Rattle.claim_text.proofs.Runs.{Run, run_none, run_line, run_append, taken}
+use Rattle.claim_blocks.specs.Blocks.{FitsHead as FitsLines, HasBlock, begin_block}
+use Rattle.claim_blocks.proofs.BlockLaws.{block_read as block_read_whole}
+use Rattle.claim_blocks.proofs.Carried.{block_too}
+use Rattle.claim_text.proofs.CompleteLines.{lines_read, resolution_short, terms_declared, each_before}
 use Rattle.claim_text.proofs.ObjectLists.{same_modules, same_maps, modules_push, modules_count, maps_count, claim_earlier, record_behind, modules_append, maps_append}
 use Rattle.claim_text.proofs.OtherLines.{one_item, item_clear}
 use Rattle.claim_text.proofs.CompleteObjects.{between, modules_read, maps_read}
@@ -62,7 +69,7 @@ not_body f (Bound t) = refl
 not_body f (RelationForm r) = refl
 
 abbrev pub header_at : HeaderPart → Part
-header_at f = record { front = f; place = place.Header; line = 0; words = []; steps = []; rules = []; records = []; modules = []; maps = []; dims = []; matrices = []; end = Done }
+header_at f = record { front = f; place = place.Header; line = 0; words = []; steps = []; rules = []; records = []; modules = []; maps = []; dims = []; matrices = []; block = None; end = Done }
 
 header_step : (f g : HeaderPart) (line : List ℕ) → HeaderStep f line g → Step (header_at f) line (header_at g)
 header_step f g line step =
@@ -138,23 +145,47 @@ module _ (h : Header) (ok : IsAllowed h) where
     no_basis : (line : ℕ) (c : Claim) → length (with_claim line c) ≡ 1 → ⊥
     no_basis line c e = let long = length-pushed rs (with_claim line c) record { line = line; modules = ms; maps = fs; claim = c } refl in absurd (omega (arith, e, long, some))
 
-    claim_read : (line : ℕ) (c : Claim) → IsLine line → IsJudged c → HasItsPlace (with_claim line c) record { line = line; modules = ms; maps = fs; claim = c } c → IsClaimBlock h (with_claim line c) c
+    claim_number : (line : ℕ) (c : Claim) (k : ℕ) → NamesClaim (with_claim line c) k → IsNumber (length rs) k
+    claim_number line c k is = record { from = is.from; to = let to = is.earlier in let long = length-pushed rs (with_claim line c) record { line = line; modules = ms; maps = fs; claim = c } refl in omega (arith, to, long) }
+
+    -- a claim with lines behind the first one
+    block_read : (line : ℕ) (c : Claim) → ((k : ℕ) → MayBeRecord h (take k rs) (record_of rs k)) → IsLine line → IsJudged c → HasBlock c → IsClaimBlock h (with_claim line c) c → AreNumbers (length rs) (counts_of p).modules (counts_of p).maps (head_of c)
+        → with_head p line (head_of c) ≡ with_block p line (head_of c) → ((0 < length rs) × FitsLines h (here p) (head_of c) → FitsKind p (head_of c))
         → Run p (claim_line (length rs + 1) line (head_of c) ∷ claim_block h c) (between h ok (with_claim line c) [] [])
-    claim_read line (claim.Basis words steps rules) is read place block = absurd (no_basis line (claim.Basis words steps rules) place.0)
-    claim_read line (claim.Module m) is read place block =
+    block_read line c each is read has block numbers leads kind =
+        let q = record p { line = line } in
+        let x = head_of c in
+        let there : IsClaimBlock h (here p) c =
+        block_too h rs record { line = line; modules = ms; maps = fs; claim = c } (unclaimed p) refl refl some c block in
+        let whole = block_read_whole h named (here p) (terms_declared h p each) c has there in
+        let fits = fits_head line x record { room = room; is_line = is; numbers = numbers } read (kind (some, whole.fits)) in
+        let first = begin_block h (here p) x in
+        let lines = lines_read q named fits.few_modules fits.few_maps first whole.last (claim_block h c) whole.leads whole.whole in
+        run_append p (at_block q first) (between h ok (with_claim line c) [] []) (claim_line (length rs + 1) line x ∷ []) (claim_block h c) (head_read line x (at_block q first) leads fits)
+        (subst (λ d. Run (at_block q first) (claim_block h c) (claimed q line d)) whole.back lines)
+
+    translate_number : (line : ℕ) (c : Claim) (which : Translation) (n k : ℕ) (rows : List PlainMatrix) → HasTranslateShape h (with_claim line c) which n k rows → AreTranslateNumbers (counts_of p).modules which
+    translate_number line c Tau n k rows shape = tt
+    translate_number line c Transpose n k rows shape = tt
+    translate_number line c (Taui b) n k rows shape = module_number line c b shape.0
+
+    claim_read : (line : ℕ) (c : Claim) → ((k : ℕ) → MayBeRecord h (take k rs) (record_of rs k)) → IsLine line → IsJudged c → HasItsPlace (with_claim line c) record { line = line; modules = ms; maps = fs; claim = c } c → IsClaimBlock h (with_claim line c) c
+        → Run p (claim_line (length rs + 1) line (head_of c) ∷ claim_block h c) (between h ok (with_claim line c) [] [])
+    claim_read line (claim.Basis words steps rules) each is read place block = absurd (no_basis line (claim.Basis words steps rules) place.0)
+    claim_read line (claim.Module m) each is read place block =
         head_read line (head.Module m) _ refl (fits_head line (head.Module m) record { room = room; is_line = is; numbers = module_number line (claim.Module m) m block } read some)
-    claim_read line (claim.Map f) is read place block =
+    claim_read line (claim.Map f) each is read place block =
         head_read line (head.Map f) _ refl (fits_head line (head.Map f) record { room = room; is_line = is; numbers = map_number line (claim.Map f) f block } read some)
-    claim_read line (claim.Kernel n f i) is read place block =
+    claim_read line (claim.Kernel n f i) each is read place block =
         let c = claim.Kernel n f i in
         head_read line (head.Kernel n f i) _ refl (fits_head line (head.Kernel n f i) record { room = room; is_line = is; numbers = (module_number line c n block.objects.is_module, map_number line c f block.objects.is_map, map_number line c i block.is_map) } read some)
-    claim_read line (claim.Cokernel n f i) is read place block =
+    claim_read line (claim.Cokernel n f i) each is read place block =
         let c = claim.Cokernel n f i in
         head_read line (head.Cokernel n f i) _ refl (fits_head line (head.Cokernel n f i) record { room = room; is_line = is; numbers = (module_number line c n block.objects.is_module, map_number line c f block.objects.is_map, map_number line c i block.is_map) } read some)
-    claim_read line (claim.Radical n a i) is read place block =
+    claim_read line (claim.Radical n a i) each is read place block =
         let c = claim.Radical n a i in
         head_read line (head.Radical n a i) _ refl (fits_head line (head.Radical n a i) record { room = room; is_line = is; numbers = (module_number line c n block.objects.is_module, module_number line c a block.is_module, map_number line c i block.objects.is_map) } read some)
-    claim_read line (claim.Decomposition a s f g parts) is read place block =
+    claim_read line (claim.Decomposition a s f g parts) each is read place block =
         let c = claim.Decomposition a s f g parts in
         head_read line (head.Decomposition a s f g parts) _ refl
         (fits_head line (head.Decomposition a s f g parts)
@@ -169,19 +200,31 @@ module _ (h : Header) (ok : IsAllowed h) where
             part_numbers line c parts block.each,
           );
         } read (some, part_kinds line c parts block.each))
-    claim_read line (claim.Hom a b rows) is read place block = absurd read
-    claim_read line (claim.Resolution a n terms) is read place block = absurd read
-    claim_read line (claim.Ext n a b rows c) is read place block = absurd read
-    claim_read line (claim.Local m c ideal power residue) is read place block = absurd read
-    claim_read line (claim.Translate which n a c rows) is read place block = absurd read
-    claim_read line (claim.AlmostSplit n e a f g c l phi left middle) is read place block = absurd read
+    claim_read line (claim.Hom a b rows) each is read place block =
+        let c = claim.Hom a b rows in
+        block_read line c each is read tt block (module_number line c a block.first, module_number line c b block.second, (let few = block.are_rows.few in let small = block.small in omega (arith, few, small))) refl (λ fits. fits)
+    claim_read line (claim.Resolution a n terms) each is read place block =
+        let c = claim.Resolution a n terms in
+        block_read line c each is read tt block (module_number line c a block.named, block.short) refl (λ fits. fits)
+    claim_read line (claim.Ext n a b rows c') each is read place block =
+        let c = claim.Ext n a b rows c' in
+        block_read line c each is read tt block ((let short = resolution_short h rs each c' (suc n) (subst (λ d. HasLength d (suc n)) (claim_earlier rs record { line = line; modules = ms; maps = fs; claim = c } c' (claim_number line c c' block.resolution.named).to) block.resolution.length) in omega (arith, short)), module_number line c a block.first, module_number line c b block.second, (let few = block.are_rows.few in let small = block.small in omega (arith, few, small)), claim_number line c c' block.resolution.named) refl (λ fits. fits)
+    claim_read line (claim.Local m c' ideal power residue) each is read place block =
+        let c = claim.Local m c' ideal power residue in
+        block_read line c each is read tt block (module_number line c m block.is_module, claim_number line c c' block.named) refl (λ fits. fits)
+    claim_read line (claim.Translate which n a c' rows) each is read place block =
+        let c = claim.Translate which n a c' rows in
+        block_read line c each is read tt block (translate_number line c which n c' rows block.shape, module_number line c n block.is_module, module_number line c a block.named, claim_number line c c' block.presentation.resolution.named) refl (λ fits. fits)
+    claim_read line (claim.AlmostSplit n e a f g c' l phi left middle) each is read place block =
+        let c = claim.AlmostSplit n e a f g c' l phi left middle in
+        block_read line c each is read (absurd read) block (module_number line c n block.first.is_module, module_number line c e block.second.is_module, module_number line c a block.ends, map_number line c f block.first.is_map, map_number line c g block.second.is_map, claim_number line c c' block.presentation.resolution.named, claim_number line c l block.named) refl (λ fits. fits)
 
   -- ---- records
 
   record_read : (rs : List Record) (r : Record) → 0 < length rs → length rs + 1 < 2 ^ 32 → length (modules_of (rs ++ r ∷ [])) < 2 ^ 32 → length (maps_of (rs ++ r ∷ [])) < 2 ^ 32
-      → IsRecord h (rs ++ r ∷ []) r → IsJudged r.claim
+      → ((k : ℕ) → MayBeRecord h (take k rs) (record_of rs k)) → IsRecord h (rs ++ r ∷ []) r → IsJudged r.claim
       → Run (between h ok rs [] []) (record_lines h (length (modules_of rs)) (length (maps_of rs)) (length rs) r) (between h ok (rs ++ r ∷ []) [] [])
-  record_read rs r some room few_modules few_maps is read =
+  record_read rs r some room few_modules few_maps before is read =
       let M = length (modules_of rs) in
       let F = length (maps_of rs) in
       let m = modules_count rs r in
@@ -190,7 +233,7 @@ module _ (h : Header) (ok : IsAllowed h) where
       (modules_read h ok rs [] r.modules M some (omega arith) (omega (arith, m, few_modules)) is.modules)
       (run_append (between h ok rs r.modules []) (between h ok rs r.modules r.maps) (between h ok (rs ++ r ∷ []) [] []) (map_lines h F r.maps) (claim_line (length rs + 1) r.line (head_of r.claim) ∷ claim_block h r.claim)
       (maps_read h ok rs (rs ++ r ∷ []) r.modules [] r.maps F some (modules_push rs r) (omega arith) (omega (arith, f, few_maps)) (omega (arith, m, few_modules)) is.maps)
-      (claim_read rs r.modules r.maps some room (omega (arith, m, few_modules)) (omega (arith, f, few_maps)) r.line r.claim is.line read is.place is.claim))
+      (claim_read rs r.modules r.maps some room (omega (arith, m, few_modules)) (omega (arith, f, few_maps)) r.line r.claim before is.line read is.place is.claim))
 
   records_read : (done todo : List Record) → 0 < length done → length (done ++ todo) < 2 ^ 32 → length (modules_of (done ++ todo)) < 2 ^ 32 → length (maps_of (done ++ todo)) < 2 ^ 32
       → ((k : ℕ) → MayBeRecord h (take k (done ++ todo)) (record_of (done ++ todo) k)) → All (λ (r : Record). IsJudged r.claim) todo
@@ -206,7 +249,7 @@ module _ (h : Header) (ok : IsAllowed h) where
       ap (λ l. length (modules_of l)) (sym again) ∙ (ap length (modules_append (done ++ r ∷ []) rest) ∙ length-append (modules_of (done ++ r ∷ [])) (modules_of rest)) in
       let all_maps : length (maps_of (done ++ r ∷ rest)) ≡ length (maps_of (done ++ r ∷ [])) + length (maps_of rest) =
       ap (λ l. length (maps_of l)) (sym again) ∙ (ap length (maps_append (done ++ r ∷ []) rest) ∙ length-append (maps_of (done ++ r ∷ [])) (maps_of rest)) in
-      let one = record_read done r some (omega (arith, few, all_long, long)) (omega (arith, few_modules, all_modules)) (omega (arith, few_maps, all_maps)) (record_behind h done r rest each) (All-head (λ (x : Record). IsJudged x.claim) r rest read) in
+      let one = record_read done r some (omega (arith, few, all_long, long)) (omega (arith, few_modules, all_modules)) (omega (arith, few_maps, all_maps)) (each_before h done (r ∷ rest) each) (record_behind h done r rest each) (All-head (λ (x : Record). IsJudged x.claim) r rest read) in
       let more = records_read (done ++ r ∷ []) rest (omega (arith, long)) (subst (λ l. length l < 2 ^ 32) (sym again) few) (subst (λ l. length (modules_of l) < 2 ^ 32) (sym again) few_modules)
       (subst (λ l. length (maps_of l) < 2 ^ 32) (sym again) few_maps) (subst (λ l. (k : ℕ) → MayBeRecord h (take k l) (record_of l k)) (sym again) each) (All-tail (λ (x : Record). IsJudged x.claim) r rest read) in
       let M = length (modules_of done) in

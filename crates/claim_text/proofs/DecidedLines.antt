@@ -9,14 +9,17 @@ use Rattle.header_text.specs.Part.{Part as HeaderPart, IsFront}
 use Rattle.header_text.proofs.FrontLemmas.{front_after}
 use Rattle.header_text.proofs.Uniqueness.{decimal_one}
 use Rattle.report_types.specs.Limits.{path_limit}
+use Rattle.claim_blocks.specs.declared.block.Block.{Block}
+use Rattle.claim_blocks.specs.Blocks.{begin_block, whole_block, block_claim}
+use Rattle.claim_blocks.proofs.BlockLaws.{block_go}
 use Rattle.claim_text.specs.Matrices.{filled}
 use Rattle.claim_text.specs.declared.part.Place.{Place}
 use Rattle.claim_text.specs.declared.part.Place.TheVariants as place
 use Rattle.claim_text.specs.declared.part.Part.{Part}
 use Rattle.claim_lines.specs.Spelling.{title_line, words_line, word_line, step_line, rule_line}
 use Rattle.claim_lines.specs.Items.{IsCount, counted, FitsWord, FitsStep, FitsRule}
-use Rattle.claim_text.specs.Part.{here, rows_of, columns_of, claimed, count_of, name_of, with_title, closed, at_matrices, fill, with_matrix, with_head, with_item, with_word_count, with_word, with_step_count, with_step, at_rules, with_rule_count, with_rule}
-use Rattle.claim_text.specs.Steps.{Takes, FitsItem, item_line, FitsMatrix, TokenStep, LexedStep, FrontStep, is_header_line, StepBy, Step}
+use Rattle.claim_text.specs.Part.{here, counts_of, at_block, rows_of, columns_of, claimed, count_of, name_of, with_title, closed, at_matrices, fill, with_matrix, with_head, with_item, with_word_count, with_word, with_step_count, with_step, at_rules, with_rule_count, with_rule}
+use Rattle.claim_text.specs.Steps.{Takes, TakesBlock, FitsItem, item_line, FitsMatrix, TokenStep, LexedStep, FrontStep, is_header_line, StepBy, Step}
 use Rattle.deciding.proofs.Deciding.{Decided, both, below, at_most, same_tokens, IsListed, found, just, numbers_below}
 use Rattle.claim_lines.proofs.DecidedHeader.{header_goes}
 use Rattle.claim_lines.proofs.DecidedItems.{count_decided, word_decided, words_listed, step_decided, steps_listed, rule_decided, RuleIn, rules_listed, rule_in}
@@ -77,6 +80,16 @@ counts_go : (word : List ℕ) (taken : List ℕ → Part) (ts : List (List ℕ))
 counts_go word taken ts =
     takes_go (λ numeral. numeral ≡ get_or ts 1 []) IsCount (λ numeral. word ∷ numeral ∷ []) taken ts (λ y z a b e. token_same _ _ _ e) (just (get_or ts 1 [])) (λ x is e. second ts word x [] e) count_decided
 
+line_go : (p : Part) → IsFront p.front → (o : Option Block) (ts : List (List ℕ)) → Goes (TakesBlock p o ts)
+line_go p front None ts = inr (λ q t. t)
+line_go p front (Some b) ts = elim (both (below (counts_of p).modules (2 ^ 32)) (below (counts_of p).maps (2 ^ 32))) [
+  | inr many ↦ inr (λ q t. many (t.few_modules, t.few_maps))
+  | inl few ↦ elim (block_go p.front.header front.named b ts) [
+    | inl go ↦ inl (at_block p go.0, record { few_modules = few.0; few_maps = few.1; named = front.named; now = go.0; step = go.1; leads = refl })
+    | inr none ↦ inr (λ q t. none t.now t.step)
+  ]
+]
+
 tokens_go : (s : Place) (p : Part) → IsFront p.front → (ts : List (List ℕ)) → Goes (TokenStep s p ts)
 tokens_go place.Title p front ts = title_go p ts
 tokens_go place.Header p front ts = first_go p front ts
@@ -99,6 +112,7 @@ tokens_go (place.Rules n) p front ts =
 tokens_go place.Between p front ts = item_go p front ts
 tokens_go (place.Matrices o) p front ts =
     decided_go (FitsMatrix p o) (at_line (name_of p.front.header.quiver o (length p.matrices))) (with_matrix p o) ts (one_matrix p o) (matrix_decided p o ts)
+tokens_go place.Block p front ts = line_go p front p.block ts
 tokens_go place.Ended p front ts = inr (λ q t. t)
 
 same_some : {A : Type 0} (x y : A) → Some x ≡ Some y → x ≡ y
@@ -154,26 +168,37 @@ rules_kept p n = by (length p.rules == n)
     by true = refl
     by false = refl
 
+block_kept : (p : Part) (b : Block) → (at_block p b).front ≡ p.front
+block_kept p b = by (whole_block b)
+  where
+    by : (w : Bool) → (cond w (claimed p p.line (block_claim b)) (record p { place = place.Block; block = Some b })).front ≡ p.front
+    by true = refl
+    by false = refl
+
 head_kept : (p : Part) (line : ℕ) (x : Head) → (with_head p line x).front ≡ p.front
 head_kept p line head.Basis = refl
 head_kept p line (head.Module m) = refl
 head_kept p line (head.Map f) = refl
-head_kept p line (head.Hom a b count) = refl
+head_kept p line (head.Hom a b count) = block_kept (record p { line = line }) (begin_block p.front.header (here p) (head.Hom a b count))
 head_kept p line (head.Kernel n f i) = refl
 head_kept p line (head.Cokernel n f i) = refl
 head_kept p line (head.Radical n a i) = refl
-head_kept p line (head.Resolution a n) = refl
-head_kept p line (head.Ext n a b count c) = refl
-head_kept p line (head.Local m c) = refl
+head_kept p line (head.Resolution a n) = block_kept (record p { line = line }) (begin_block p.front.header (here p) (head.Resolution a n))
+head_kept p line (head.Ext n a b count c) = block_kept (record p { line = line }) (begin_block p.front.header (here p) (head.Ext n a b count c))
+head_kept p line (head.Local m c) = block_kept (record p { line = line }) (begin_block p.front.header (here p) (head.Local m c))
 head_kept p line (head.Decomposition a s f g parts) = refl
-head_kept p line (head.Translate which n a c) = refl
-head_kept p line (head.AlmostSplit n e a f g c l) = refl
+head_kept p line (head.Translate which n a c) = block_kept (record p { line = line }) (begin_block p.front.header (here p) (head.Translate which n a c))
+head_kept p line (head.AlmostSplit n e a f g c l) = block_kept (record p { line = line }) (begin_block p.front.header (here p) (head.AlmostSplit n e a f g c l))
 
 item_kept : (p : Part) (x : Item) → (with_item p x).front ≡ p.front
 item_kept p (item.Module side dims) = fill_kept (record p { dims = dims; matrices = [] }) (owner.Module side)
 item_kept p (item.Map a b) = fill_kept (record p { matrices = [] }) (owner.Map a b)
 item_kept p (item.Claim line x) = head_kept p line x
 item_kept p (item.End e) = refl
+
+line_kept : (p q : Part) (o : Option Block) (ts : List (List ℕ)) → TakesBlock p o ts q → IsFront p.front → IsFront q.front
+line_kept p q None ts t front = absurd t
+line_kept p q (Some b) ts t front = subst (λ (r : Part). IsFront r.front) (sym t.leads) (subst IsFront (sym (block_kept p t.now)) front)
 
 tokens_kept : (s : Place) (p q : Part) (ts : List (List ℕ)) → TokenStep s p ts q → IsFront p.front → IsFront q.front
 tokens_kept place.Title p q ts t front = subst (λ (r : Part). IsFront r.front) (sym t.leads) front
@@ -186,6 +211,7 @@ tokens_kept place.RuleCount p q ts t front = kept _ _ (with_rule_count p) p.fron
 tokens_kept (place.Rules n) p q ts t front = kept _ _ (with_rule p n) p.front ts q (λ x. rules_kept (record p { rules = p.rules ++ x ∷ [] }) n) t front
 tokens_kept place.Between p q ts t front = kept _ _ (with_item p) p.front ts q (item_kept p) t front
 tokens_kept (place.Matrices o) p q ts t front = kept _ _ (with_matrix p o) p.front ts q (λ m. fill_kept (record p { matrices = p.matrices ++ m ∷ [] }) o) t front
+tokens_kept place.Block p q ts t front = line_kept p q p.block ts t front
 tokens_kept place.Ended p q ts t front = absurd t
 
 kept_by : (b : Bool) (p q : Part) (line : List ℕ) → StepBy b p line q → IsFront p.front → IsFront q.front

@@ -1,22 +1,23 @@
 -- What stands between whole objects and claims, by its first word.
 use Rattle.std.specs.Prelude.{nat_eq, Bool, MatchBool}
 use Rattle.std.specs.Cmp.Lexicographic.{pointwise}
-use Rattle.std.proofs.Common.{◌≡◌, ℕ, ◌+◌, ◌<◌, ◌^◌, true, false, List, [], length, get_or, codes, None, refl, sym, ap, ◌∙◌, subst, true≢false}
+use Rattle.std.proofs.Common.{◌≡◌, ℕ, ◌+◌, ◌<◌, ◌^◌, true, false, List, [], length, get_or, codes, None, refl, sym, ap, ◌∙◌, subst, true≢false, arith}
 use Rattle.header_text.specs.Part.{MayEnd as HeaderMayEnd}
 use Rattle.header_text.specs.Reading.{Reads}
 use Rattle.object_lines.specs.declared.objects.ModuleHead.{ModuleHead}
 use Rattle.object_lines.specs.Items.{head_line}
 use Rattle.object_lines.specs.Spelling.{map_line}
+use Rattle.report_types.specs.Numbers.{modules_of, maps_of}
 use Rattle.report_types.specs.declared.reports.End.TheVariants.{Done, Refused}
 use Rattle.claim_lines.specs.declared.heads.Head.{Head}
-use Rattle.claim_lines.specs.declared.heads.Head.TheVariants as head
 use Rattle.claim_lines.specs.Spelling.{claim_line, end_line}
 use Rattle.claim_lines.specs.Items.{FitsClaim}
 use Rattle.claim_lines.proofs.DecidedClaims.{one_claim}
 use Rattle.claim_text.specs.declared.part.Part.{Part}
 use Rattle.claim_text.specs.declared.part.Item.TheVariants as item
 use Rattle.claim_text.specs.Judged.{IsJudgedHead}
-use Rattle.claim_text.specs.Part.{counts_of, with_item}
+use Rattle.claim_text.specs.Part.{unclaimed, counts_of, with_item}
+use Rattle.claim_text.proofs.ObjectLists.{modules_count, maps_count}
 use Rattle.claim_text.specs.Steps.{Takes, TakesFirst, FitsItem, item_line, FitsModule, FitsMap, FitsHead, FitsKind, FitsLast}
 
 -- different words
@@ -64,20 +65,18 @@ module _ (p : Part) (ts : List (List ℕ)) where
       (sym f ∙ (e ∙ ap (λ k. claim_line (k + 1) line x) ee)) in
       bad (subst (λ (z : ℕ × Head). IsJudgedHead z.1 × FitsKind p z.1) same (other_fits.judged, other_fits.kind))
 
-pub judged_basis : (x : Head) → IsJudgedHead x → x ≡ head.Basis
-judged_basis head.Basis is = refl
-judged_basis (head.Module m) is = absurd is
-judged_basis (head.Map f) is = absurd is
-judged_basis (head.Kernel n f i) is = absurd is
-judged_basis (head.Cokernel n f i) is = absurd is
-judged_basis (head.Radical n a i) is = absurd is
-judged_basis (head.Decomposition a s f g parts) is = absurd is
-judged_basis (head.Hom a b count) is = absurd is
-judged_basis (head.Resolution a n) is = absurd is
-judged_basis (head.Ext n a b count c) is = absurd is
-judged_basis (head.Local m c) is = absurd is
-judged_basis (head.Translate which n a c) is = absurd is
-judged_basis (head.AlmostSplit n e a f g c l) is = absurd is
+-- the objects of a claim's record have their numbers
+pub counted_modules : (p : Part) → (counts_of p).modules < 2 ^ 32 → length (modules_of p.records) + length p.modules < 2 ^ 32
+counted_modules p few = let e = modules_count p.records (unclaimed p) in omega (arith, few, e)
+
+pub counted_maps : (p : Part) → (counts_of p).maps < 2 ^ 32 → length (maps_of p.records) + length p.maps < 2 ^ 32
+counted_maps p few = let e = maps_count p.records (unclaimed p) in omega (arith, few, e)
+
+pub room_modules : (p : Part) (line : ℕ) (x : Head) → FitsHead p line x → length (modules_of p.records) + length p.modules < 2 ^ 32
+room_modules p line x fits = counted_modules p fits.few_modules
+
+pub room_maps : (p : Part) (line : ℕ) (x : Head) → FitsHead p line x → length (maps_of p.records) + length p.maps < 2 ^ 32
+room_maps p line x fits = counted_maps p fits.few_maps
 
 -- the first line behind a header that may end
 pub first_taken : (p : Part) (ts : List (List ℕ)) (next : Part) (b : Bool) → HeaderMayEnd p.front

@@ -1,16 +1,11 @@
 -- The objects of a report that is being read: by number, and the sizes of their matrices.
-use Rattle.std.proofs.Common.{◌≡◌, ◌≢◌, ℕ, zero, suc, ◌+◌, ◌*◌, ◌-◌, ◌<◌, ◌≤◌, List, [], ◌∷◌, ◌++◌, length, get_or, cond, inl, inr, refl, sym, ap, ◌∙◌, subst, arith, append_assoc, append-nil, ltb, lt-ltb}
-use Rattle.std.specs.Prelude.{slice_index}
-use Rattle.std.proofs.lemmas.Bool.{cases_lt, cond-true}
+use Rattle.std.proofs.Common.{◌≡◌, ◌≢◌, ℕ, zero, suc, ◌+◌, ◌*◌, ◌-◌, ◌<◌, ◌≤◌, List, [], ◌∷◌, ◌++◌, length, get_or, cond, inl, inr, refl, sym, ap, ◌∙◌, subst, arith, append_assoc, append-nil}
 use Rattle.std.proofs.lemmas.Bool.Decides.{eqb_tells}
-use Rattle.std.proofs.lemmas.List.{get_or_append_left, get_or_past, get_or_default, get_or-append-add}
 use Rattle.quiver_paths.proofs.ListLemmas.{length-pushed}
 use Rattle.linear_algebra.specs.Field.{Gf}
 use Rattle.fp_linear.specs.Matrix.{PlainMatrix}
 use Rattle.path_algebra.specs.declared.Header.{Header}
-use Rattle.path_algebra.specs.Derivations.{IsNumber}
 use Rattle.bound_algebra.specs.TypedPaths.{quiver_of}
-use Rattle.representations.specs.Quiver.{Quiver}
 use Rattle.module_types.specs.declared.Module.{Module}
 use Rattle.module_types.specs.declared.Side.{Side}
 use Rattle.module_types.specs.declared.Side.TheVariants.{Right, Left}
@@ -32,19 +27,11 @@ use Rattle.module_types.specs.Shapes.{HasShape}
 use Rattle.std.proofs.Math.Nat.{mul-zero, zero-mul}
 use Rattle.std.proofs.Common.{Some}
 use Rattle.claim_text.specs.Filling.{with_empties, Filling}
+pub use Rattle.claim_blocks.proofs.SumReading.{dim_inside, dim_short}
+use Rattle.claim_blocks.proofs.Numbered.{numbered_left, numbered_past, numbered_right}
 use Rattle.claim_text.proofs.ObjectLists.{modules_push, modules_count, maps_count}
 
 -- ---- dimensions
-
-pub dim_inside : (Q : Quiver) (dims : List ℕ) (v : ℕ) → v < Q.vertices → slice_index dims v ≡ dim_at Q dims v
-unfolding dim_at
-dim_inside Q dims v l = sym (cond-true (ltb v Q.vertices) (slice_index dims v) zero (lt-ltb v Q.vertices l))
-
-pub dim_short : (Q : Quiver) (dims : List ℕ) (v : ℕ) → length dims ≤ v → zero ≡ dim_at Q dims v
-dim_short Q dims v l = elim (cases_lt v Q.vertices) [
-  | inl inside ↦ sym (get_or_past dims v 0 l) ∙ dim_inside Q dims v inside
-  | inr past ↦ sym (dim_past Q dims v (omega (arith, past)))
-]
 
 dim_sided : (h : Header) (side : Side) (dims : List ℕ) (v : ℕ) → dim_at (quiver_of h.quiver) dims v ≡ dim_at (algebra_at side h).quiver dims v
 unfolding dim_at
@@ -101,17 +88,6 @@ pub none_right : (m n : ℕ) → n ≡ 0 → m * n ≡ 0
 none_right m n e = ap (λ k. m * k) e ∙ mul-zero m
 
 -- ---- modules by number
-
-numbered_left : {X : Type 0} (d : X) (xs ys : List X) (n : ℕ) → IsNumber (length xs) n → numbered d xs n ≡ numbered d (xs ++ ys) n
-numbered_left d xs ys zero is = absurd (let l = is.from in omega (arith, l))
-numbered_left d xs ys (suc i) is = sym (get_or_append_left xs ys d i (let l = is.to in omega (arith, l)))
-
-numbered_past : {X : Type 0} (d : X) (xs : List X) (n : ℕ) → length xs < n → d ≡ numbered d xs n
-numbered_past d xs zero l = absurd (omega (arith, l))
-numbered_past d xs (suc i) l = sym (get_or_past xs i d (omega (arith, l)))
-
-numbered_right : {X : Type 0} (d e : X) (xs ys : List X) (n j : ℕ) → n ≡ suc (length xs + j) → j < length ys → get_or ys j e ≡ numbered d (xs ++ ys) n
-numbered_right d e xs ys n j is l = get_or_default ys j e d l ∙ (sym (get_or-append-add xs ys j d) ∙ ap (numbered d (xs ++ ys)) (sym is))
 
 modules_here : (p : Part) → modules_of (here p) ≡ modules_of p.records ++ p.modules
 modules_here p = modules_push p.records (unclaimed p)

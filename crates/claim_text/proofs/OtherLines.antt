@@ -33,6 +33,7 @@ use Rattle.claim_lines.proofs.ClearClaims.{claim_clear}
 use Rattle.claim_lines.proofs.ClearEnds.{end_clear}
 use Rattle.claim_lines.proofs.DecidedClaims.{one_claim, claim_decided}
 use Rattle.claim_lines.proofs.DecidedEnds.{one_end, end_decided}
+use Rattle.claim_blocks.proofs.DecidedHeads.{lines_decided}
 use Rattle.claim_text.specs.declared.part.Owner.{Owner}
 use Rattle.claim_text.specs.declared.part.Owner.TheVariants as owner
 use Rattle.claim_text.specs.declared.part.Part.{Part}
@@ -180,26 +181,26 @@ module _ (p : Part) (named : IsNamed p.front.header.quiver) (few : length p.fron
   kind_decided (head.Radical a b i) = below 0 (length p.records)
   kind_decided (head.Decomposition a s f g parts) =
       both (below 0 (length p.records)) (of_each (λ (x : PartClaim). IsLocalClaim (claim_of p.records x.local)) (λ x. local_decided (claim_of p.records x.local)) parts)
-  kind_decided (head.Hom a b count) = inr (λ x. x)
-  kind_decided (head.Resolution a k) = inr (λ x. x)
-  kind_decided (head.Ext k a b count c) = inr (λ x. x)
-  kind_decided (head.Local a c) = inr (λ x. x)
-  kind_decided (head.Translate which a b c) = inr (λ x. x)
-  kind_decided (head.AlmostSplit a e b f g c l) = inr (λ x. x)
+  kind_decided (head.Hom a b count) = both (below 0 (length p.records)) (lines_decided p.front.header (here p) (head.Hom a b count))
+  kind_decided (head.Resolution a k) = both (below 0 (length p.records)) (lines_decided p.front.header (here p) (head.Resolution a k))
+  kind_decided (head.Ext k a b count c) = both (below 0 (length p.records)) (lines_decided p.front.header (here p) (head.Ext k a b count c))
+  kind_decided (head.Local a c) = both (below 0 (length p.records)) (lines_decided p.front.header (here p) (head.Local a c))
+  kind_decided (head.Translate which a b c) = both (below 0 (length p.records)) (lines_decided p.front.header (here p) (head.Translate which a b c))
+  kind_decided (head.AlmostSplit a e b f g c l) = both (below 0 (length p.records)) (lines_decided p.front.header (here p) (head.AlmostSplit a e b f g c l))
 
   judged_decided : (x : Head) → Decided (IsJudgedHead x)
   judged_decided head.Basis = inl tt
-  judged_decided (head.Module a) = inr (λ x. x)
-  judged_decided (head.Map f) = inr (λ x. x)
-  judged_decided (head.Kernel a f i) = inr (λ x. x)
-  judged_decided (head.Cokernel a f i) = inr (λ x. x)
-  judged_decided (head.Radical a b i) = inr (λ x. x)
-  judged_decided (head.Decomposition a s f g parts) = inr (λ x. x)
-  judged_decided (head.Hom a b count) = inr (λ x. x)
-  judged_decided (head.Resolution a k) = inr (λ x. x)
-  judged_decided (head.Ext k a b count c) = inr (λ x. x)
-  judged_decided (head.Local a c) = inr (λ x. x)
-  judged_decided (head.Translate which a b c) = inr (λ x. x)
+  judged_decided (head.Module a) = inl tt
+  judged_decided (head.Map f) = inl tt
+  judged_decided (head.Kernel a f i) = inl tt
+  judged_decided (head.Cokernel a f i) = inl tt
+  judged_decided (head.Radical a b i) = inl tt
+  judged_decided (head.Decomposition a s f g parts) = inl tt
+  judged_decided (head.Hom a b count) = inl tt
+  judged_decided (head.Resolution a k) = inl tt
+  judged_decided (head.Ext k a b count c) = inl tt
+  judged_decided (head.Local a c) = inl tt
+  judged_decided (head.Translate which a b c) = inl tt
   judged_decided (head.AlmostSplit a e b f g c l) = inr (λ x. x)
 
   claim_item : (ts : List (List ℕ)) → Decided ((x : ℕ × Head) × (FitsHead p x.0 x.1 × (ts ≡ claim_line (length p.records + 1) x.0 x.1)))

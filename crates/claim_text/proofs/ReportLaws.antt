@@ -48,6 +48,7 @@ ended place.RuleCount = inr (λ e. cc)
 ended (place.Rules n) = inr (λ e. cc)
 ended place.Between = inr (λ e. cc)
 ended (place.Matrices o) = inr (λ e. cc)
+ended place.Block = inr (λ e. cc)
 ended place.Ended = inl refl
 
 read_or_bad : (p : Part) → IsFront p.front → (ls : List (List ℕ)) → ReadOrBad Step MayEnd p ls

@@ -1,5 +1,5 @@
 -- What has been read of a report, and what is read with one line more.
-use Rattle.std.specs.Prelude.{ℕ, ◌+◌, ◌==◌, List, [], ◌∷◌, ◌++◌, length, if◌then◌else◌}
+use Rattle.std.specs.Prelude.{ℕ, ◌+◌, ◌==◌, List, [], ◌∷◌, ◌++◌, length, if◌then◌else◌, None, Some}
 use Rattle.fp_linear.specs.Matrix.{PlainMatrix}
 use Rattle.quiver_paths.specs.declared.Path.{Path}
 use Rattle.quiver_paths.specs.declared.Quiver.{Quiver}
@@ -22,6 +22,9 @@ use Rattle.claim_lines.specs.declared.heads.Counts.{Counts}
 use Rattle.claim_lines.specs.declared.heads.Head.{Head}
 use Rattle.claim_lines.specs.declared.heads.Head.TheVariants as head
 use Rattle.claim_lines.specs.Items.{counted}
+use Rattle.claim_blocks.specs.declared.block.Block.{Block}
+use Rattle.claim_blocks.specs.Setting.{Setting}
+use Rattle.claim_blocks.specs.Blocks.{begin_block, whole_block, block_claim}
 use Rattle.claim_text.specs.declared.part.Owner.{Owner}
 use Rattle.claim_text.specs.declared.part.Owner.TheVariants as owner
 use Rattle.claim_text.specs.declared.part.Place.{Place}
@@ -33,7 +36,7 @@ use Rattle.claim_text.specs.Matrices.{filled}
 
 -- before the first line
 abbrev pub start : Part
-start = record { front = header_start; place = place.Title; line = 0; words = []; steps = []; rules = []; records = []; modules = []; maps = []; dims = []; matrices = []; end = Done }
+start = record { front = header_start; place = place.Title; line = 0; words = []; steps = []; rules = []; records = []; modules = []; maps = []; dims = []; matrices = []; block = None; end = Done }
 
 abbrev pub report_of : Part → Report
 report_of p = record { header = p.front.header; records = p.records; end = p.end }
@@ -84,6 +87,7 @@ claimed p line c = record p {
   records = p.records ++ record { line = line; modules = p.modules; maps = p.maps; claim = c } ∷ [];
   modules = [];
   maps = [];
+  block = None;
 }
 
 -- among n rules, or behind them
@@ -133,6 +137,20 @@ fill p o =
 abbrev pub with_matrix : Part → Owner → PlainMatrix → Part
 with_matrix p o m = fill (record p { matrices = p.matrices ++ m ∷ [] }) o
 
+-- ---- the lines of a claim
+
+-- what the lines behind the first of a claim are read over
+abbrev pub setting_of : Part → Setting
+setting_of p = record { header = p.front.header; records = here p }
+
+-- among the lines of a claim, or behind them
+abbrev pub at_block : Part → Block → Part
+at_block p b = if whole_block b then claimed p p.line (block_claim b) else record p { place = place.Block; block = Some b }
+
+-- before the lines behind the first one
+abbrev pub with_block : Part → ℕ → Head → Part
+with_block p line x = at_block (record p { line = line }) (begin_block p.front.header (here p) x)
+
 -- ---- between whole objects and claims
 
 abbrev pub with_head : Part → ℕ → Head → Part
@@ -143,12 +161,12 @@ with_head p line (head.Kernel n f i) = claimed p line (claim.Kernel n f i)
 with_head p line (head.Cokernel n f i) = claimed p line (claim.Cokernel n f i)
 with_head p line (head.Radical n a i) = claimed p line (claim.Radical n a i)
 with_head p line (head.Decomposition a s f g parts) = claimed p line (claim.Decomposition a s f g parts)
-with_head p line (head.Hom a b count) = p
-with_head p line (head.Resolution a n) = p
-with_head p line (head.Ext n a b count c) = p
-with_head p line (head.Local m c) = p
-with_head p line (head.Translate which n a c) = p
-with_head p line (head.AlmostSplit n e a f g c l) = p
+with_head p line (head.Hom a b count) = with_block p line (head.Hom a b count)
+with_head p line (head.Resolution a n) = with_block p line (head.Resolution a n)
+with_head p line (head.Ext n a b count c) = with_block p line (head.Ext n a b count c)
+with_head p line (head.Local m c) = with_block p line (head.Local m c)
+with_head p line (head.Translate which n a c) = with_block p line (head.Translate which n a c)
+with_head p line (head.AlmostSplit n e a f g c l) = with_block p line (head.AlmostSplit n e a f g c l)
 
 abbrev pub with_item : Part → Item → Part
 with_item p (item.Module side dims) = fill (record p { dims = dims; matrices = [] }) (owner.Module side)

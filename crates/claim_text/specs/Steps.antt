@@ -5,6 +5,7 @@ use Rattle.std.specs.declared.option.Option.{Option}
 use Rattle.fp_linear.specs.Matrix.{PlainMatrix}
 use Rattle.path_algebra.specs.Derivations.{IsNumber}
 use Rattle.text_lines.specs.Strict.{strict_tokens}
+use Rattle.header_text.specs.Named.{IsNamed}
 use Rattle.header_text.specs.Part.{Part as HeaderPart, Step as HeaderStep, MayEnd as HeaderMayEnd}
 use Rattle.quiver_paths.specs.Quiver.{vertex_count}
 use Rattle.module_types.specs.declared.Side.{Side}
@@ -19,6 +20,9 @@ use Rattle.claim_lines.specs.declared.heads.Head.{Head}
 use Rattle.claim_lines.specs.declared.heads.Head.TheVariants as head
 use Rattle.claim_lines.specs.Spelling.{title_line, claim_line, words_line, word_line, steps_line, step_line, rules_line, rule_line, end_line}
 use Rattle.claim_lines.specs.Items.{IsCount, FitsWord, FitsStep, FitsRule, FitsClaim, FitsEnd}
+use Rattle.claim_blocks.specs.declared.block.Block.{Block}
+use Rattle.claim_blocks.specs.Blocks.{FitsHead as FitsLines, BlockStep}
+pub use Rattle.claim_blocks.specs.Taking.{Takes}
 use Rattle.claim_text.specs.declared.part.Owner.{Owner}
 use Rattle.claim_text.specs.declared.part.Place.{Place}
 use Rattle.claim_text.specs.declared.part.Place.TheVariants as place
@@ -26,15 +30,7 @@ use Rattle.claim_text.specs.declared.part.Part.{Part}
 use Rattle.claim_text.specs.declared.part.Item.{Item}
 use Rattle.claim_text.specs.declared.part.Item.TheVariants as item
 use Rattle.claim_text.specs.Judged.{IsJudgedHead}
-use Rattle.claim_text.specs.Part.{here, counts_of, with_title, with_word_count, with_word, with_step_count, with_step, with_rule_count, with_rule, name_of, rows_of, columns_of, with_matrix, with_item}
-
--- The tokens spell one of the things that may follow, and lead to what is read with it. (They spell no other.)
-pub record Takes {X : Type 0} (Fits : X → Type 0) (spell : X → List (List ℕ)) (taken : X → Part) (tokens : List (List ℕ)) (next : Part) : Type 0 where
-  pub item : X
-  pub fits : Fits item
-  pub spelled : tokens ≡ spell item
-  pub only : (other : X) → Fits other → tokens ≡ spell other → other ≡ item
-  pub leads : next ≡ taken item
+use Rattle.claim_text.specs.Part.{here, counts_of, at_block, with_title, with_word_count, with_word, with_step_count, with_step, with_rule_count, with_rule, name_of, rows_of, columns_of, with_matrix, with_item}
 
 -- the tokens are those of the title
 pub record TakesTitle (p : Part) (tokens : List (List ℕ)) (next : Part) : Type 0 where
@@ -74,12 +70,12 @@ FitsKind p (head.Kernel n f i) = 0 < length p.records
 FitsKind p (head.Cokernel n f i) = 0 < length p.records
 FitsKind p (head.Radical n a i) = 0 < length p.records
 FitsKind p (head.Decomposition a s f g parts) = (0 < length p.records) × All (λ (x : PartClaim). IsLocalClaim (claim_of p.records x.local)) parts
-FitsKind p (head.Hom a b count) = ⊥
-FitsKind p (head.Resolution a n) = ⊥
-FitsKind p (head.Ext n a b count c) = ⊥
-FitsKind p (head.Local m c) = ⊥
-FitsKind p (head.Translate which n a c) = ⊥
-FitsKind p (head.AlmostSplit n e a f g c l) = ⊥
+FitsKind p (head.Hom a b count) = (0 < length p.records) × FitsLines p.front.header (here p) (head.Hom a b count)
+FitsKind p (head.Resolution a n) = (0 < length p.records) × FitsLines p.front.header (here p) (head.Resolution a n)
+FitsKind p (head.Ext n a b count c) = (0 < length p.records) × FitsLines p.front.header (here p) (head.Ext n a b count c)
+FitsKind p (head.Local m c) = (0 < length p.records) × FitsLines p.front.header (here p) (head.Local m c)
+FitsKind p (head.Translate which n a c) = (0 < length p.records) × FitsLines p.front.header (here p) (head.Translate which n a c)
+FitsKind p (head.AlmostSplit n e a f g c l) = (0 < length p.records) × FitsLines p.front.header (here p) (head.AlmostSplit n e a f g c l)
 
 pub record FitsHead (p : Part) (line : ℕ) (x : Head) : Type 0 where
   pub few_modules : (counts_of p).modules < 2 ^ 32
@@ -112,6 +108,21 @@ pub record FitsMatrix (p : Part) (o : Owner) (m : PlainMatrix) : Type 0 where
   pub shape : HasShape p.front.header.field (rows_of p.front.header p.dims (here p) o (length p.matrices)) (columns_of p.front.header p.dims (here p) o (length p.matrices)) m
   pub entries : m.row_count * m.col_count ≢ 0
 
+-- ---- the lines of a claim
+
+-- one of the lines behind the first of a claim (names are always so, and of modules and maps there are always so few)
+pub record TakesLine (p : Part) (b : Block) (tokens : List (List ℕ)) (next : Part) : Type 0 where
+  pub few_modules : (counts_of p).modules < 2 ^ 32
+  pub few_maps : (counts_of p).maps < 2 ^ 32
+  pub named : IsNamed p.front.header.quiver
+  pub now : Block
+  pub step : BlockStep p.front.header b tokens now
+  pub leads : next ≡ at_block p now
+
+abbrev pub TakesBlock : Part → Option Block → List (List ℕ) → Part → Type 0
+TakesBlock p None tokens next = ⊥
+TakesBlock p (Some b) tokens next = TakesLine p b tokens next
+
 -- ---- all places
 
 -- the header may end, and the tokens are those of the first line behind it
@@ -133,6 +144,7 @@ TokenStep (place.Rules n) p tokens next =
     Takes (FitsRule p.front.header (length p.steps) (length p.rules)) (rule_line p.front.header.quiver) (with_rule p n) tokens next
 TokenStep place.Between p tokens next = Takes (FitsItem p) (item_line p) (with_item p) tokens next
 TokenStep (place.Matrices o) p tokens next = Takes (FitsMatrix p o) (at_line (name_of p.front.header.quiver o (length p.matrices))) (with_matrix p o) tokens next
+TokenStep place.Block p tokens next = TakesBlock p p.block tokens next
 TokenStep place.Ended p tokens next = ⊥
 
 -- the line has tokens, which may follow

@@ -1,21 +1,26 @@
 //! What stands between whole objects and claims.
-ghost use Rattle.std.specs.Prelude.{ℕ, ◌≡◌, ◌≢◌, ◌<◌, ◌≤◌, ◌+◌, ◌^◌, ◌∷◌, [], List, Some, length, codes, slice_index_or, IfOk, OnOk, MatchBool, MatchOption, IsTrue, ◌↔◌};
+ghost use Rattle.std.specs.Prelude.{ℕ, ◌≡◌, ◌≢◌, ◌<◌, ◌≤◌, ◌+◌, ◌^◌, ◌∷◌, [], List, All, Some, length, codes, slice_index_or, IfOk, OnOk, MatchBool, MatchOption, IsTrue, ◌↔◌};
 ghost use Rattle.text_lines.specs.Strict.{strict_tokens};
 ghost use Rattle.header_text.specs.Reading.{Reads};
 ghost use Rattle.object_lines.specs.declared.objects.ModuleHead.{ModuleHead as ModuleView};
 ghost use Rattle.object_lines.specs.Items.{head_line};
 ghost use Rattle.object_lines.specs.Spelling.{map_line};
+ghost use Rattle.report_types.specs.declared.claims.PartClaim.{PartClaim as PartView};
+ghost use Rattle.report_types.specs.NamedClaims.{IsLocalClaim};
+ghost use Rattle.report_types.specs.Numbers.{claim_of};
 ghost use Rattle.claim_lines.specs.declared.heads.Head.{Head as HeadView};
 ghost use Rattle.claim_lines.specs.Spelling.{claim_line, end_line};
 ghost use Rattle.claim_text.specs.declared.part.Part.{Part};
 ghost use Rattle.claim_text.specs.Judged.{IsJudgedHead};
-ghost use Rattle.claim_text.specs.Part.{counts_of, fill, with_head, with_item};
+ghost use Rattle.claim_blocks.specs.Blocks.{FitsHead as FitsLines};
+ghost use Rattle.claim_text.specs.Part.{here, counts_of, fill, with_head, with_item};
 ghost use Rattle.claim_text.specs.Steps.{Takes, FitsItem, item_line, FitsModule, FitsMap, FitsHead, FitsKind, FitsLast};
 
 use crate::part::{Item, Owner, Part, Place};
+use claim_blocks::Block;
 use claim_lines::{Counts, Head, read_end, read_head};
 use object_lines::{ModuleHead, read_map, read_module};
-use report_types::End;
+use report_types::{Claim, End, PartClaim};
 use seq::Seq;
 use std::alloc::{AllocError, Global};
 use text_lines::{Parts, strict_tokens};
@@ -30,6 +35,27 @@ fn begins_with(line: &[u8], word: &[u8]) -> bool
     };
     let mut tokens = tokens;
     tokens.take_word(word)
+}
+
+/// Whether claims of this kind are judged.
+fn is_judged(head: &Head) -> bool
+    ensures { IsTrue result ↔ IsJudgedHead head.now }
+{
+    match head {
+        Head::Basis => true,
+        Head::Module { .. } => true,
+        Head::Map { .. } => true,
+        Head::Hom { .. } => true,
+        Head::Kernel { .. } => true,
+        Head::Cokernel { .. } => true,
+        Head::Radical { .. } => true,
+        Head::Resolution { .. } => true,
+        Head::Ext { .. } => true,
+        Head::Local { .. } => true,
+        Head::Decomposition { .. } => true,
+        Head::Translate { .. } => true,
+        Head::AlmostSplit { .. } => false,
+    }
 }
 
 impl Part {
@@ -78,16 +104,74 @@ impl Part {
         Some(ends)
     }
 
-    /// Whether a claim that its first line spells may stand here: the basis, as the first.
-    fn may_claim(&self, head: &Head) -> bool
-        ensures { IsTrue result ↔ (IsJudgedHead head.now × FitsKind self.now head.now) }
+    /// Whether each part names an earlier claim that its module is local.
+    fn have_local_claims(&self, parts: &[PartClaim]) -> bool
+        ensures { IsTrue result ↔ All (λ (x : PartView). IsLocalClaim (claim_of self.now.records x.local)) parts.now }
+    {
+        for part in parts {
+            if !self.is_local_claim(part.local) {
+                return false;
+            }
+        }
+        true
+    }
+
+    /// Whether the claim with this number is one that a module is local.
+    fn is_local_claim(&self, n: u32) -> bool
+        ensures { IsTrue result ↔ IsLocalClaim (claim_of self.now.records n) }
+    {
+        match self.records.claim(n) {
+            Some(Claim::Local { .. }) => true,
+            _ => false,
+        }
+    }
+
+    /// Whether the lines behind the first line of a claim may follow here: the claims that it names are of the kinds that it asks, and it is within the limits.
+    fn may_begin(&self, alloc: Global, head: &Head) -> Result<bool, AllocError>
+        ensures { IfOk result (λ b. IsTrue b ↔ ((0 < length self.now.records) × FitsLines self.now.front.header (here self.now) head.now)) }
+    {
+        if self.records.is_empty() {
+            return Ok(false);
+        }
+        match Block::begin(alloc, &self.context(), head)? {
+            Some(_begun) => Ok(true),
+            None => Ok(false),
+        }
+    }
+
+    /// Whether a claim of this kind may stand here, behind these objects, and the claims that it names are of the kinds that it asks.
+    fn has_its_place(&self, alloc: Global, head: &Head) -> Result<bool, AllocError>
+        ensures { IfOk result (λ b. IsTrue b ↔ FitsKind self.now head.now) }
     {
         match head {
             Head::Basis => {
-                self.records.is_empty() && self.modules.is_empty() && self.maps.is_empty()
+                Ok(self.records.is_empty() && self.modules.is_empty() && self.maps.is_empty())
             }
-            _ => false,
+            Head::Module { .. } => Ok(!self.records.is_empty()),
+            Head::Map { .. } => Ok(!self.records.is_empty()),
+            Head::Kernel { .. } => Ok(!self.records.is_empty()),
+            Head::Cokernel { .. } => Ok(!self.records.is_empty()),
+            Head::Radical { .. } => Ok(!self.records.is_empty()),
+            Head::Decomposition { parts, .. } => {
+                Ok(!self.records.is_empty() && self.have_local_claims(parts.as_slice()))
+            }
+            Head::Hom { .. } => self.may_begin(alloc, head),
+            Head::Resolution { .. } => self.may_begin(alloc, head),
+            Head::Ext { .. } => self.may_begin(alloc, head),
+            Head::Local { .. } => self.may_begin(alloc, head),
+            Head::Translate { .. } => self.may_begin(alloc, head),
+            Head::AlmostSplit { .. } => self.may_begin(alloc, head),
         }
+    }
+
+    /// Whether a claim that its first line spells may stand here.
+    fn may_claim(&self, alloc: Global, head: &Head) -> Result<bool, AllocError>
+        ensures { IfOk result (λ b. IsTrue b ↔ (IsJudgedHead head.now × FitsKind self.now head.now)) }
+    {
+        if !is_judged(head) {
+            return Ok(false);
+        }
+        self.has_its_place(alloc, head)
     }
 
     /// Reads the first line of a claim.
@@ -112,7 +196,8 @@ impl Part {
         let Some((line, head)) = read_head(alloc, earlier as u32, counts, tokens)? else {
             return Ok(None);
         };
-        if !self.may_claim(&head) {
+        let stands = self.may_claim(alloc, &head)?;
+        if !stands {
             return Ok(None);
         }
         Ok(Some((line, head)))
@@ -200,16 +285,80 @@ impl Part {
     }
 
     /// What is read with the first line of a claim.
-    fn set_head(&mut self, line: u32, head: Head)
-        requires { IsJudgedHead head }
-        ensures { self.new ≡ with_head self.old line head }
+    fn set_head(&mut self, alloc: Global, line: u32, head: Head) -> Result<(), AllocError>
+        requires { FitsHead self.old line head }
+        ensures { OnOk result (self.new ≡ with_head self.old line head) }
     {
         match head {
             Head::Basis => {
                 self.place = Place::WordCount;
                 self.line = line;
+                Ok(())
             }
-            _ => unreachable!(),
+            Head::Module { module } => self.close_claim(alloc, line, Claim::Module { module }),
+            Head::Map { map } => self.close_claim(alloc, line, Claim::Map { map }),
+            Head::Kernel {
+                kernel,
+                f,
+                inclusion,
+            } => self.close_claim(
+                alloc,
+                line,
+                Claim::Kernel {
+                    kernel,
+                    f,
+                    inclusion,
+                },
+            ),
+            Head::Cokernel {
+                cokernel,
+                f,
+                projection,
+            } => self.close_claim(
+                alloc,
+                line,
+                Claim::Cokernel {
+                    cokernel,
+                    f,
+                    projection,
+                },
+            ),
+            Head::Radical {
+                radical,
+                a,
+                inclusion,
+            } => self.close_claim(
+                alloc,
+                line,
+                Claim::Radical {
+                    radical,
+                    a,
+                    inclusion,
+                },
+            ),
+            Head::Decomposition {
+                a,
+                sum,
+                to,
+                back,
+                parts,
+            } => self.close_claim(
+                alloc,
+                line,
+                Claim::Decomposition {
+                    a,
+                    sum,
+                    to,
+                    back,
+                    parts,
+                },
+            ),
+            Head::Hom { .. } => self.begin_block(alloc, line, &head),
+            Head::Resolution { .. } => self.begin_block(alloc, line, &head),
+            Head::Ext { .. } => self.begin_block(alloc, line, &head),
+            Head::Local { .. } => self.begin_block(alloc, line, &head),
+            Head::Translate { .. } => self.begin_block(alloc, line, &head),
+            Head::AlmostSplit { .. } => self.begin_block(alloc, line, &head),
         }
     }
 
@@ -233,10 +382,7 @@ impl Part {
                 self.set_owner(alloc, Owner::Module { side })
             }
             Item::Map { source, target } => self.set_owner(alloc, Owner::Map { source, target }),
-            Item::Claim { line, head } => {
-                self.set_head(line, head);
-                Ok(())
-            }
+            Item::Claim { line, head } => self.set_head(alloc, line, head),
             Item::End { end } => {
                 self.place = Place::Ended;
                 self.end = end;

@@ -3,6 +3,7 @@
 
 mod items;
 pub mod laws;
+mod lines;
 mod objects;
 mod part;
 mod reader;

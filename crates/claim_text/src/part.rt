@@ -1,5 +1,6 @@
 //! What has been read of a report.
 
+use claim_blocks::Block;
 use claim_lines::{Head, Words};
 use fp_linear::Matrix;
 use header_text::HeaderReader;
@@ -16,7 +17,7 @@ pub enum Owner {
 }
 
 /// Where a report stands: before its title, among the lines of its header, before the number of words, among so many words,
-/// and so on to the end of the basis; between whole objects and claims; among matrices; behind its last line.
+/// and so on to the end of the basis; between whole objects and claims; among matrices; among the lines behind the first of a claim; behind its last line.
 #[derive(Clone, Copy, Drop)]
 pub enum Place {
     Title,
@@ -29,10 +30,12 @@ pub enum Place {
     Rules(u64),
     Between,
     Matrices(Owner),
+    Block,
     Ended,
 }
 
-/// What has been read of a report: whole records, the objects of the record that is being read, and what was read of an object or of a basis.
+/// What has been read of a report: whole records, the objects of the record that is being read, and what was read of an object, of a basis or of another
+/// claim.
 #[derive(Drop)]
 pub struct Part {
     pub front: HeaderReader,
@@ -46,6 +49,7 @@ pub struct Part {
     pub maps: Seq<Map>,
     pub dims: Seq<u32>,
     pub matrices: Seq<Matrix>,
+    pub block: Option<Block>,
     pub end: End,
 }
 

@@ -75,6 +75,7 @@ fn start(alloc: Global) -> Part
         maps: Seq::new(alloc),
         dims: Seq::new(alloc),
         matrices: Seq::new(alloc),
+        block: None,
         end: End::Done,
     }
 }

@@ -1,8 +1,9 @@
 //! Reading one line more.
-ghost use Rattle.std.specs.Prelude.{ℕ, ◌≡◌, ◌<◌, ◌≤◌, ◌+◌, ◌∷◌, [], List, length, codes, decimal, Some, IfOk, OnOk, MatchBool, MatchOption};
+ghost use Rattle.std.specs.Prelude.{ℕ, ◌≡◌, ◌<◌, ◌≤◌, ◌+◌, ◌^◌, ◌∷◌, [], List, length, codes, decimal, Some, IfOk, OnOk, MatchBool, MatchOption};
 ghost use Rattle.text_lines.specs.Strict.{strict_tokens};
 ghost use Rattle.header_text.specs.Reading.{Reads};
 ghost use Rattle.report_types.specs.Limits.{path_limit};
+ghost use Rattle.report_types.specs.Numbers.{modules_of, maps_of};
 ghost use Rattle.report_types.specs.declared.claims.Claim.TheVariants as Said;
 ghost use Rattle.claim_text.specs.declared.part.Part.{Part};
 ghost use Rattle.claim_lines.specs.Spelling.{words_line, steps_line, rules_line, word_line, step_line, rule_line};
@@ -106,6 +107,33 @@ impl Part {
         Ok(true)
     }
 
+    /// Makes a record of a claim and of the objects that were read before it.
+    pub(crate) fn close_claim(
+        &mut self,
+        alloc: Global,
+        line: u32,
+        claim: Claim,
+    ) -> Result<(), AllocError>
+        requires modules { length (modules_of self.old.records) + length self.old.modules < 2 ^ 32 }
+        requires maps { length (maps_of self.old.records) + length self.old.maps < 2 ^ 32 }
+        ensures { OnOk result (self.new ≡ claimed self.old line claim) }
+    {
+        let added = Record {
+            line,
+            modules: mem::replace(&mut self.modules, Seq::new(alloc)),
+            maps: mem::replace(&mut self.maps, Seq::new(alloc)),
+            claim,
+        };
+        self.records.push(added)?;
+        self.place = Place::Between;
+        self.line = 0;
+        self.words = Words::new(alloc);
+        self.steps = Seq::new(alloc);
+        self.rules = Seq::new(alloc);
+        self.block = None;
+        Ok(())
+    }
+
     /// Makes a record of the basis.
     fn close_basis(&mut self, alloc: Global) -> Result<(), AllocError>
         ensures { OnOk result (self.new ≡ claimed (record self.old { modules = []; maps = [] }) self.old.line (Said.Basis self.old.words self.old.steps self.old.rules)) }
@@ -116,21 +144,14 @@ impl Part {
         let words = mem::replace(&mut self.words, Words::new(alloc));
         let steps = mem::replace(&mut self.steps, Seq::new(alloc));
         let rules = mem::replace(&mut self.rules, Seq::new(alloc));
-        let added = Record {
-            line: self.line,
-            modules: Seq::new(alloc),
-            maps: Seq::new(alloc),
-            claim: Claim::Basis {
-                words: words.into_paths(),
-                steps,
-                rules,
-            },
-        };
-        self.records.push(added)?;
-        self.place = Place::Between;
-        self.line = 0;
         self.modules = Seq::new(alloc);
         self.maps = Seq::new(alloc);
+        let basis = Claim::Basis {
+            words: words.into_paths(),
+            steps,
+            rules,
+        };
+        self.close_claim(alloc, self.line, basis)?;
         Ok(())
     }
 
@@ -212,6 +233,7 @@ impl Part {
             Place::Rules(n) => self.take_rule(alloc, n, tokens),
             Place::Between => self.take_item(alloc, line, tokens),
             Place::Matrices(owner) => self.take_matrix(alloc, owner, tokens),
+            Place::Block => self.take_block(alloc, tokens),
             Place::Ended => Ok(false),
         }
     }

@@ -10,11 +10,11 @@ pub trait Parts {
     ghost modules: { Self → List Module };
 
     /// How many there are.
-    fn count(&self) -> u32
+    fn count(&self) -> usize
         ensures { result ≡ length (modules self.now) };
 
     /// Part `i`, counted from 0.
-    fn part(&self, i: u32) -> &Module
+    fn part(&self, i: usize) -> &Module
         requires { i < length (modules self.now) }
         ensures { result.now ≡ slice_index_or (modules self.now) i result.now };
 }

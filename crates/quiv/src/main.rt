@@ -18,6 +18,6 @@ fn main(rt: HostRuntime) -> ExitCode {
     };
     let mut source = ReaderSource::new(rt.stdin());
     let mut sink = WriterSink::new(rt.stdout());
-    let outcome = quiv(rt.alloc(), words.as_slice(), &mut source, &mut sink);
+    let outcome = quiv(&rt, rt.alloc(), words.as_slice(), &mut source, &mut sink);
     ExitCode::from(outcome.status())
 }

@@ -1,5 +1,5 @@
 -- Inputs that end well.
-use Rattle.std.proofs.Common.{◌≡◌, ℕ, ◌+◌, ◌≤◌, List, [], ◌∷◌, ◌++◌, length, codes, Some, None, refl, sym, ap, ◌∙◌, subst, arith, append-nil}
+use Rattle.std.proofs.Common.{◌≡◌, ℕ, ◌+◌, ◌≤◌, List, [], ◌∷◌, ◌++◌, length, codes, Some, None, inl, inr, refl, sym, ap, ◌∙◌, subst, arith, append-nil}
 use Rattle.std.specs.declared.option.Option.{Option}
 use Rattle.std.proofs.lemmas.List.{length-append}
 use Rattle.quiv_io.specs.Counts.{Rose}
@@ -25,24 +25,37 @@ use Rattle.top_call.specs.declared.outcome.Outcome.{Outcome}
 use Rattle.top_call.specs.declared.outcome.Outcome.TheVariants.{Done, Refused, Rejected, BadText, TooLong, Usage, ReadFault, WriteFault, NoMemory}
 use Rattle.top_call.specs.declared.modes.Mode.{Mode}
 use Rattle.top_call.specs.declared.modes.Mode.TheVariants.{Run, Check}
-use Rattle.top_call.specs.Modes.{AsksFor, input_limit}
+use Rattle.top_call.specs.Modes.{mode_name, AsksWith, AsksFor, input_limit}
 use Rattle.top_call.specs.Answers.{Answers}
 use Rattle.top_call.specs.Outcomes.{IsText, IsBegun, IsStopped, IsAnswered, IsTooLong, Writes, HasCause}
 use Rattle.top_call.specs.Expected.{IsGood, IsDoneOrNoMemory}
 
-differs : codes "run" ∷ [] ≡ codes "check" ∷ [] → ⊥
-differs e = let n = ap (λ (l : List (List ℕ)). sizes l) e in absurd (omega (arith, n))
-  where
-    sizes : List (List ℕ) → ℕ
-    sizes [] = 0
-    sizes (w ∷ ws) = length w + sizes ws
+name_sizes : (m n : Mode) → mode_name m ≡ mode_name n → length (mode_name m) ≡ length (mode_name n)
+name_sizes m n e = ap (λ (w : List ℕ). length w) e
+
+one_name : (m n : Mode) → mode_name m ≡ mode_name n → m ≡ n
+one_name Run Run e = refl
+one_name Run Check e = absurd (let n = name_sizes Run Check e in omega (arith, n))
+one_name Check Run e = absurd (let n = name_sizes Check Run e in omega (arith, n))
+one_name Check Check e = refl
+
+no_name : (m : Mode) → codes "--workers" ≡ mode_name m → ⊥
+no_name Run e = let n = ap (λ (w : List ℕ). length w) e in omega (arith, n)
+no_name Check e = let n = ap (λ (w : List ℕ). length w) e in omega (arith, n)
+
+one_asked : (words : List (List ℕ)) (m n : Mode) (j k : ℕ) → AsksWith words m j → AsksWith words n k → m ≡ n
+one_asked [] m n j k x y = absurd x
+one_asked (a ∷ []) m n j k x y = one_name m n (sym x.0 ∙ y.0)
+one_asked (a ∷ b ∷ []) m n j k x y = absurd x
+one_asked (a ∷ b ∷ c ∷ []) m n j k x y = elim x [
+  | inl p ↦ elim y [ inl q ↦ one_name m n (sym p.mode_is ∙ q.mode_is) | inr q ↦ absurd (no_name m (sym q.workers.named ∙ p.mode_is)) ]
+  | inr p ↦ elim y [ inl q ↦ absurd (no_name n (sym p.workers.named ∙ q.mode_is)) | inr q ↦ one_name m n (sym p.mode_is ∙ q.mode_is) ]
+]
+one_asked (a ∷ b ∷ c ∷ d ∷ more) m n j k x y = absurd x
 
 -- words ask for one mode
 pub one_mode : (words : List (List ℕ)) (m n : Mode) → AsksFor words m → AsksFor words n → m ≡ n
-one_mode words Run Run a b = refl
-one_mode words Run Check a b = absurd (differs (sym a ∙ b))
-one_mode words Check Run a b = absurd (differs (sym b ∙ a))
-one_mode words Check Check a b = refl
+one_mode words m n a b = one_asked words m n a.0 b.0 a.1 b.1
 
 -- what was read of a source that tells all it has left
 pub read_all_of : (input given : List ℕ) (left after : Option (List ℕ)) → left ≡ Some input → GivesAll left given after → given ≡ input

@@ -1,3 +1,5 @@
+pub mod CheckedOnce
+pub mod WordLemmas
 pub mod OutcomeLemmas
 pub mod RunLemmas
 pub mod ExpectedLemmas

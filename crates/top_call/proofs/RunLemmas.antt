@@ -28,17 +28,17 @@ use Rattle.script_run.specs.Runs.{IsRightReport, IsRightBeginning}
 -- what is judged in a text is judged by the check
 same_kinds : (c : Claim) → IsJudged c → IsChecked c
 same_kinds (claim.Basis words steps rules) j = tt
-same_kinds (claim.Module m) j = absurd j
-same_kinds (claim.Map f) j = absurd j
-same_kinds (claim.Hom a b rows) j = absurd j
-same_kinds (claim.Kernel n f i) j = absurd j
-same_kinds (claim.Cokernel n f p) j = absurd j
-same_kinds (claim.Radical n a i) j = absurd j
-same_kinds (claim.Resolution a n terms) j = absurd j
-same_kinds (claim.Ext n a b rows c) j = absurd j
-same_kinds (claim.Local m c ideal power residue) j = absurd j
-same_kinds (claim.Decomposition a s f g parts) j = absurd j
-same_kinds (claim.Translate which n a c rows) j = absurd j
+same_kinds (claim.Module m) j = tt
+same_kinds (claim.Map f) j = tt
+same_kinds (claim.Hom a b rows) j = tt
+same_kinds (claim.Kernel n f i) j = tt
+same_kinds (claim.Cokernel n f p) j = tt
+same_kinds (claim.Radical n a i) j = tt
+same_kinds (claim.Resolution a n terms) j = tt
+same_kinds (claim.Ext n a b rows c) j = tt
+same_kinds (claim.Local m c ideal power residue) j = tt
+same_kinds (claim.Decomposition a s f g parts) j = tt
+same_kinds (claim.Translate which n a c rows) j = tt
 same_kinds (claim.AlmostSplit n e a f g c l phi left middle) j = absurd j
 
 pub checked_kinds : (records : List Record) → All (λ (r : Record). IsJudged r.claim) records → AreJudged records

@@ -4,3 +4,4 @@ pub mod Answers
 pub mod Outcomes
 pub mod Expected
 pub mod Steps
+pub mod Wanted

@@ -11,6 +11,7 @@ use claim_check::check_report;
 use claim_text::{ReadTextError, read};
 use report_types::{Report, Verdict};
 use std::alloc::{AllocError, Global};
+use std::thread::Threads;
 
 /// An outcome and the text that is written for it.
 #[derive(Drop)]
@@ -20,13 +21,19 @@ pub(crate) struct Answer {
 }
 
 /// The verdict on the report that the input is.
-pub(crate) fn check_input(alloc: Global, input: &[u8]) -> Result<Answer, AllocError>
-    requires { length input.now ≤ input_limit Check }
+pub(crate) fn check_input<R: Threads + Sync>(
+    rt: &R,
+    alloc: Global,
+    input: &[u8],
+    workers: u32,
+) -> Result<Answer, AllocError>
+    requires short { length input.now ≤ input_limit Check }
+    requires workers { (1 ≤ workers) × (workers ≤ 16) }
     ensures { IfOk result (λ a. CheckAnswers a.outcome input.now a.text.items) }
 {
     match read(alloc, input) {
         Ok(report) => {
-            let answer = check_read(alloc, input, &report)?;
+            let answer = check_read(rt, alloc, input, &report, workers)?;
             Ok(answer)
         }
         Err(ReadTextError::BadText { line }) => {
@@ -41,11 +48,18 @@ pub(crate) fn check_input(alloc: Global, input: &[u8]) -> Result<Answer, AllocEr
 }
 
 /// The verdict on a report, which was read of the input.
-fn check_read(alloc: Global, input: &[u8], report: &Report) -> Result<Answer, AllocError>
-    requires { IsTextOf input.now report.now }
+fn check_read<R: Threads + Sync>(
+    rt: &R,
+    alloc: Global,
+    input: &[u8],
+    report: &Report,
+    workers: u32,
+) -> Result<Answer, AllocError>
+    requires reads { IsTextOf input.now report.now }
+    requires workers { (1 ≤ workers) × (workers ≤ 16) }
     ensures { IfOk result (λ a. CheckAnswers a.outcome input.now a.text.items) }
 {
-    match check_report(alloc, report, 1)? {
+    match check_report(rt, alloc, report, workers)? {
         Verdict::Holds => {
             let text = holds_text(alloc, report.records.len() as u32)?;
             Ok(Answer {

@@ -12,19 +12,21 @@ ghost use Rattle.top_call.specs.Expected.{IsGood, IsDoneOrNoMemory, RunsWhole};
 ghost use Rattle.top_call.specs.Steps.{Finishes, EndsWith, Refuses, run_outcome};
 
 use crate::checking::{Answer, check_input};
-use crate::modes::{Mode, mode_of};
+use crate::modes::{Mode, read_words};
 use crate::outcome::Outcome;
 use crate::texts::bad_text;
 use quiv_io::{ReadError, Sink, Source, read_all, write_whole};
 use script_lang::{ParseError, parse};
 use script_run::{RunEnd, run};
 use std::alloc::Global;
+use std::thread::Threads;
 
 /// Does all that the program does: reads the words, reads the source to its end, and writes to the sink what the mode answers. See `Writes` and
 /// `HasCause` for what is written with each outcome and when it comes.
 ///
 /// With `Done` each claim in the report that was written or read holds, by the definitions; with `run` the report answers the script.
-pub fn quiv<S: Source, K: Sink>(
+pub fn quiv<R: Threads + Sync, S: Source, K: Sink>(
+    rt: &R,
     alloc: Global,
     words: &[String],
     source: &mut S,
@@ -47,11 +49,12 @@ pub fn quiv<S: Source, K: Sink>(
     ensures complete { (mode : Mode) → AsksFor (map string_bytes words.now) mode → (Rose (S.faults source.old) (S.faults source.new) → ⊥) → (Rose (K.faults sink.old) (K.faults sink.new) → ⊥)
         → (input : List ℕ) → S.left source.old ≡ Some input → length input ≤ input_limit mode → IsGood mode input → IsDoneOrNoMemory result }
 {
-    answer(alloc, words, source, sink)
+    answer(rt, alloc, words, source, sink)
 }
 
 /// Reads the words and the source, and writes what the mode answers.
-fn answer<S: Source, K: Sink>(
+fn answer<R: Threads + Sync, S: Source, K: Sink>(
+    rt: &R,
     alloc: Global,
     words: &[String],
     source: &mut S,
@@ -63,33 +66,34 @@ fn answer<S: Source, K: Sink>(
     ensures counts { (S.faults source.old ≤ S.faults source.new) × (K.faults sink.old ≤ K.faults sink.new) }
     ensures unread { ((mode : Mode) → AsksFor (map string_bytes words.now) mode → ⊥) → source.new ≡ source.old }
 {
-    let Some(mode) = mode_of(words) else {
+    let Some(asked) = read_words(words) else {
         return finish(
             sink,
             Outcome::Usage,
             b"usage: quiv run|check [--workers K] | quiv gen --seed S --size N\n",
         );
     };
-    let input = match read_all(alloc, source, mode.input_limit()) {
+    let input = match read_all(alloc, source, asked.mode.input_limit()) {
         Ok(input) => input,
         Err(ReadError::Fault) => return Outcome::ReadFault,
         Err(ReadError::TooLong) => return finish(sink, Outcome::TooLong, b"toolong\n"),
         Err(ReadError::NoMemory) => return Outcome::NoMemory,
     };
-    match mode {
-        Mode::Run => run_input(alloc, &input, sink),
-        Mode::Check => answer_check(alloc, &input, sink),
+    match asked.mode {
+        Mode::Run => run_input(alloc, &input, asked.workers, sink),
+        Mode::Check => answer_check(rt, alloc, &input, asked.workers, sink),
     }
 }
 
 /// Runs the script that the input is.
-fn run_input<K: Sink>(alloc: Global, input: &[u8], sink: &mut K) -> Outcome
-    requires { length input.now ≤ input_limit Run }
+fn run_input<K: Sink>(alloc: Global, input: &[u8], workers: u32, sink: &mut K) -> Outcome
+    requires short { length input.now ≤ input_limit Run }
+    requires workers { (1 ≤ workers) × (workers ≤ 16) }
     ensures count { K.faults sink.old ≤ K.faults sink.new }
     ensures ends { EndsWith Run input.now result (K.taken sink.old) (K.taken sink.new) (K.faults sink.old) (K.faults sink.new) }
 {
     match parse(alloc, input) {
-        Ok(script) => outcome_of(run(alloc, &script, 1, sink)),
+        Ok(script) => outcome_of(run(alloc, &script, workers, sink)),
         Err(ParseError::BadText { line }) => refuse_text(alloc, line, sink),
         Err(ParseError::NoMemory) => Outcome::NoMemory,
     }
@@ -119,12 +123,19 @@ fn refuse_text<K: Sink>(alloc: Global, line: u32, sink: &mut K) -> Outcome
 }
 
 /// Writes the verdict on the report that the input is.
-fn answer_check<K: Sink>(alloc: Global, input: &[u8], sink: &mut K) -> Outcome
-    requires { length input.now ≤ input_limit Check }
+fn answer_check<R: Threads + Sync, K: Sink>(
+    rt: &R,
+    alloc: Global,
+    input: &[u8],
+    workers: u32,
+    sink: &mut K,
+) -> Outcome
+    requires short { length input.now ≤ input_limit Check }
+    requires workers { (1 ≤ workers) × (workers ≤ 16) }
     ensures count { K.faults sink.old ≤ K.faults sink.new }
     ensures ends { EndsWith Check input.now result (K.taken sink.old) (K.taken sink.new) (K.faults sink.old) (K.faults sink.new) }
 {
-    let Ok(Answer { outcome, text }) = check_input(alloc, input) else {
+    let Ok(Answer { outcome, text }) = check_input(rt, alloc, input, workers) else {
         return Outcome::NoMemory;
     };
     finish(sink, outcome, &text)

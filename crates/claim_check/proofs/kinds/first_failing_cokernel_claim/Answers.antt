@@ -1,9 +1,5 @@
-use Rattle.std.proofs.Common.{refl, subst, sym}
-use Rattle.module_types.specs.declared.Map.{Map}
-use Rattle.claim_conditions.specs.declared.Clause.TheVariants as clause
-use Rattle.report_types.specs.Conditions.{Goes}
 use Rattle.claim_check.proofs.Named.{module_there, map_there}
-use Rattle.claim_check.proofs.ByNumbers.{not_named, map_block, names_source, names_target, source_is, target_is, cokernel_answer}
+use Rattle.claim_check.proofs.ByNumbers.{map_block, names_source, names_target, source_is, target_is, cokernel_answer}
 use Rattle.claim_check.proofs.kinds.first_failing_cokernel_claim.Goals as goal
 
 pub module_at-source-requires : goal.module_at-source-requires

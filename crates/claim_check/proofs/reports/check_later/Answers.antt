@@ -1,15 +1,17 @@
-use Rattle.std.proofs.Common.{sym, subst, arith}
-use Rattle.report_types.specs.Verdicts.{IsFirstFailure}
-use Rattle.claim_check.proofs.Later.{one_more, all_hold, one_fails}
+use Rattle.std.proofs.Common.{length}
+use Rattle.claim_check.proofs.RunVerdicts.{all_runs, verdict_of_runs}
 use Rattle.claim_check.proofs.reports.check_later.Goals as goal
 
-pub returns-in-Fails : goal.returns-in-Fails
-returns-in-Fails c =
-    subst (λ i. IsFirstFailure c.args.report.now i c.in-Fails.clause) (sym c.in-Fails.ensures.verdict.0)
-    (one_fails c.args.report.now c.loop-k.k c.in-Fails.clause c.loop-k.invariant.0 c.in-Fails.ensures.verdict.1)
-
-pub loop-k-preserved : goal.loop-k-preserved
-loop-k-preserved c = (one_more c.args.report.now c.loop-k.k c.loop-k.invariant.0 c.in_default.ensures.verdict, c.in_default.ensures.room_stays)
+pub map_in_order-requires-clause-accepts : goal.map_in_order-requires-clause-accepts
+map_in_order-requires-clause-accepts g c κs within = λ k d l. (
+  c.requires.report,
+  c.requires.judged,
+  c.requires.table,
+  c.requires.gate,
+  all_runs c.args.report.now 1 (length c.args.report.now.records) c.in_ok-runs.runs.items c.in_ok-runs.ensures k d l,
+)
 
 pub returns : goal.returns
-returns c = all_hold c.args.report.now c.loop-k.k (omega (arith, c.loop-k-test.false, c.loop-k.auto.k-end, c.len-k-end.ensures, c.requires.report.few)) c.loop-k.invariant.0
+returns g c =
+    verdict_of_runs c.args.report.now c.in_ok-runs.runs.items c.in_ok-verdicts.verdicts.items c.as_slice.result.now c.first_failure.result c.in_ok-runs.ensures c.in_ok-verdicts.ensures
+    c.as_slice.ensures.value c.first_failure.ensures c.requires.table.holds

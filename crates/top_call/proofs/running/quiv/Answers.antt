@@ -17,3 +17,15 @@ returns-clause-unrefused g c = λ asks x y input tells short script reads few.
     (g.S.Source.left c.answer.new.source) (g.K.Sink.taken c.args.sink.now) (g.K.Sink.taken c.answer.new.sink) input asks tells short script reads few c.answer.result
     (g.S.Source.faults c.args.source.now) (g.S.Source.faults c.answer.new.source) (g.K.Sink.faults c.args.sink.now) (g.K.Sink.faults c.answer.new.sink) c.answer.ensures.writes
     c.answer.ensures.cause x y
+
+pub returns-clause-writes : goal.returns-clause-writes
+returns-clause-writes g c = c.answer.ensures.writes
+
+pub returns-clause-cause : goal.returns-clause-cause
+returns-clause-cause g c = c.answer.ensures.cause
+
+pub returns-clause-counts : goal.returns-clause-counts
+returns-clause-counts g c = c.answer.ensures.counts
+
+pub returns-clause-unread : goal.returns-clause-unread
+returns-clause-unread g c = c.answer.ensures.unread

@@ -1,0 +1,13 @@
+use Rattle.std.proofs.Common.{refl}
+use Rattle.object_lines.proofs.RowReading.{no_row}
+use Rattle.claim_blocks.specs.SequenceBlocks.{functional_width}
+use Rattle.claim_blocks.proofs.FunctionalReading.{entries_row}
+use Rattle.claim_blocks.proofs.functional.read_parts.Goals as goal
+
+pub returns-then-not-taken : goal.returns-then-not-taken
+returns-then-not-taken c = no_row c.args.field (functional_width c.args.counts.now) c.args.tokens (rw c.if-not-taken.true at c.in_ok-taken.ensures)
+
+pub returns : goal.returns
+returns c =
+    entries_row c.args.field (functional_width c.args.counts.now) c.new-entries.result c.take_parts.new.entries c.args.tokens c.take_parts.new.tokens c.new-entries.ensures (c.if-not-is_done.ensures.0 refl)
+    (rw c.if-not-taken.false at c.in_ok-taken.ensures)

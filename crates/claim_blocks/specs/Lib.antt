@@ -1,0 +1,16 @@
+pub mod Spelling
+pub mod Matrices
+pub mod Setting
+pub mod Sums
+pub mod Taking
+pub mod PartRows
+pub mod RowBlocks
+pub mod LocalBlocks
+pub mod Leading
+pub mod Counts
+pub mod TermBlocks
+pub mod TermChains
+pub mod PartMatrices
+pub mod VertexBlocks
+pub mod SequenceBlocks
+pub mod Blocks
