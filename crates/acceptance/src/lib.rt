@@ -6,7 +6,15 @@ mod faults;
 #[cfg(test)]
 mod gaps;
 #[cfg(test)]
+mod gates;
+#[cfg(test)]
+mod hom_reports;
+#[cfg(test)]
 mod lines;
+#[cfg(test)]
+mod local_reports;
+#[cfg(test)]
+mod module_reports;
 #[cfg(test)]
 mod products;
 #[cfg(test)]
@@ -18,4 +26,10 @@ mod script_lines;
 #[cfg(test)]
 mod scripts;
 #[cfg(test)]
+mod sequence_reports;
+#[cfg(test)]
 mod tables;
+#[cfg(test)]
+mod term_reports;
+#[cfg(test)]
+mod translate_reports;
