@@ -9,7 +9,6 @@ use Rattle.report_types.specs.declared.reports.Report.{Report}
 use Rattle.report_types.specs.declared.reports.Why.{Why}
 use Rattle.report_types.specs.Verdicts.{ConditionsHold}
 use Rattle.claim_conditions.specs.declared.Clause.{Clause}
-use Rattle.report_types.specs.declared.verdicts.Verdict.{Verdict}
 use Rattle.report_types.specs.declared.verdicts.Verdict.TheVariants as verdict
 use Rattle.report_types.specs.declared.reports.End.TheVariants as end
 use Rattle.script_answers.specs.Answers.{HasFewPaths}

@@ -1,12 +1,10 @@
 -- The records that were made in a call.
-use Rattle.std.proofs.Common.{ℕ, ◌≡◌, ◌≤◌, ◌⊎◌, List, [], ◌∷◌, ◌++◌, length, Some, None, inl, inr, refl, sym, ap, ◌∙◌, subst, append-nil}
-use Rattle.std.specs.Prelude.{⊤, All}
-use Rattle.std.specs.declared.option.Option.{Option}
+use Rattle.std.proofs.Common.{◌≡◌, List, [], ◌∷◌, ◌++◌, Some, None, inl, inr, refl, sym, ap, ◌∙◌, subst, append-nil}
+use Rattle.std.specs.Prelude.{All}
 use Rattle.std.proofs.lemmas.List.Elements.{All-nil, All-cons, All-weaker}
 use Rattle.script_types.specs.declared.Script.{Script}
 use Rattle.script_types.specs.declared.StatementKind.{StatementKind}
 use Rattle.script_types.specs.declared.StatementKind.TheVariants.{Rep, Std, Sum, Map, Kernel, Cokernel, Radical, Dual, Hom, Resolve, Ext, Decompose, Transpose, Tau, Taui, Ars}
-use Rattle.path_algebra.specs.Allowed.{IsAllowed}
 use Rattle.report_types.specs.declared.claims.Claim.{Claim}
 use Rattle.report_types.specs.declared.claims.Claim.TheVariants as claim
 use Rattle.report_types.specs.declared.claims.Record.{Record}
@@ -14,7 +12,6 @@ use Rattle.report_types.specs.declared.reports.Report.{Report}
 use Rattle.report_types.specs.declared.reports.End.TheVariants as end
 use Rattle.report_types.specs.declared.reports.Why.{Why}
 use Rattle.report_types.specs.declared.reports.Why.TheVariants.{NotBuilt}
-use Rattle.report_types.specs.Lawful.{IsReport}
 use Rattle.script_answers.specs.Settings.{Setting}
 use Rattle.script_answers.specs.Refusals.{refusal}
 use Rattle.script_answers.specs.Answers.{Stage, setting_at, Makes, begun, next, AnswersScript, IsWhole, ClaimsBasis, EndsAtBasis}
