@@ -1,6 +1,6 @@
 -- Claims over a named resolution: extensions, translates and transposes. What the format asks of them, over the whole report; the answers on them, and those
 -- over the records up to the claim.
-use Rattle.std.proofs.Common.{ℕ, suc, ◌≡◌, ◌≤◌, ◌<◌, List, length, Some, refl, sym, ap, ◌∙◌, subst, arith}
+use Rattle.std.proofs.Common.{ℕ, suc, ◌≡◌, ◌≤◌, ◌<◌, List, length, refl, sym, ap, ◌∙◌, subst, arith}
 use Rattle.std.specs.Prelude.{⊤, Option, take, slice_index_or}
 use Rattle.std.proofs.lemmas.List.{take-take}
 use Rattle.fp_linear.specs.Matrix.{PlainMatrix}
@@ -223,26 +223,9 @@ module _ (h : Header) (T : Sides h) (rs : List Record) (c x m : ℕ) (terms : Li
       ((x ≡ b) × IsDualOf h (module_of rs a) (module_of rs b) × ((module_of rs n).side ≡ (module_of rs a).side)) r (λ p. (same, p.1, p.2)) (λ p. (tt, p.1, p.2)) y3 in
       subst (λ z. IsAnswer (taui_conditions (IsResolutionOf z b) h T (module_of rs n) (module_of rs a) (module_of rs b) (terms_in z) rows) r) (sym e) y4
 
-  -- the terms are those of another module
-  pub other_in_extension : (n a b : ℕ) (rows : PlainMatrix) → ¬ (x ≡ a)
-      → IsAnswer (extension_conditions (IsResolutionOf (claim_of rs c) a) h T (module_of rs a) (module_of rs b) (terms_in (claim_of rs c)) n rows) (Some clause.Objects)
-  other_in_extension n a b rows f = (0, (refl, λ p. f (subst (λ z. IsResolutionOf z a) e p.0)))
-
-  pub other_in_tau : (n a : ℕ) (rows : List PlainMatrix) → ¬ (x ≡ a)
-      → IsAnswer (tau_conditions (IsResolutionOf (claim_of rs c) a) h T (module_of rs n) (module_of rs a) (terms_in (claim_of rs c)) rows) (Some clause.Objects)
-  other_in_tau n a rows f = (0, (refl, λ p. f (subst (λ z. IsResolutionOf z a) e p.0)))
-
-  pub other_in_transpose : (n a : ℕ) (rows : List PlainMatrix) → ¬ (x ≡ a)
-      → IsAnswer (transpose_conditions (IsResolutionOf (claim_of rs c) a) h T (module_of rs n) (module_of rs a) (terms_in (claim_of rs c)) rows) (Some clause.Objects)
-  other_in_transpose n a rows f = (0, (refl, λ p. f (subst (λ z. IsResolutionOf z a) e p.0)))
-
-  pub other_in_taui : (n a b : ℕ) (rows : List PlainMatrix) → ¬ (x ≡ b)
-      → IsAnswer (taui_conditions (IsResolutionOf (claim_of rs c) b) h T (module_of rs n) (module_of rs a) (module_of rs b) (terms_in (claim_of rs c)) rows) (Some clause.Objects)
-  other_in_taui n a b rows f = (0, (refl, λ p. f (subst (λ z. IsResolutionOf z b) e p.0)))
-
 -- ---- what the deciders ask
 
-matrices_by : (q : Gf) (n : ℕ) (rows other columns more : ℕ → ℕ) (ms : List PlainMatrix) → ((i : ℕ) → rows i ≡ other i) → ((i : ℕ) → columns i ≡ more i) → AreMatrices q n rows columns ms → AreMatrices q n other more ms
+pub matrices_by : (q : Gf) (n : ℕ) (rows other columns more : ℕ → ℕ) (ms : List PlainMatrix) → ((i : ℕ) → rows i ≡ other i) → ((i : ℕ) → columns i ≡ more i) → AreMatrices q n rows columns ms → AreMatrices q n other more ms
 matrices_by q n rows other columns more ms e f m = record {
   counted = m.counted;
   each = λ i a l. subst (λ z. HasShape q (other i) z (slice_index_or ms i a)) (f i) (subst (λ z. HasShape q z (columns i) (slice_index_or ms i a)) (e i) (m.each i a l));
@@ -251,7 +234,7 @@ matrices_by q n rows other columns more ms e f m = record {
 -- a resolution of length 1 that is named, of module x
 module _ (report : Report) (table : TableView) (t : IsTableOf report table) (c x m : ℕ) (terms : List TermRows) (e : claim_of report.records c ≡ claim.Resolution x m terms) (xm : Module) (ex : xm ≡ module_of report.records x) where
   -- the dimensions of what stands for term k on the other side
-  dual_is : (k w : ℕ) → dual_dim report.header report.records c k w ≡ sum_dim table.words (other_side xm.side) (vertices_at terms k) w
+  pub dual_is : (k w : ℕ) → dual_dim report.header report.records c k w ≡ sum_dim table.words (other_side xm.side) (vertices_at terms k) w
   dual_is k w =
       ap (λ z. injective_dim (printed_words report.records) (module_of report.records (resolved_in z)).side (vertices_at (terms_in z) k) w) e
       ∙ (ap (λ (y : Module). injective_dim (printed_words report.records) y.side (vertices_at terms k) w) (sym ex)
