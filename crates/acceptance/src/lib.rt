@@ -14,6 +14,8 @@ mod lines;
 #[cfg(test)]
 mod local_reports;
 #[cfg(test)]
+mod loop_sequences;
+#[cfg(test)]
 mod module_reports;
 #[cfg(test)]
 mod products;
@@ -35,3 +37,5 @@ mod term_reports;
 mod translate_reports;
 #[cfg(test)]
 mod words;
+#[cfg(test)]
+mod workers;

@@ -363,7 +363,7 @@ refused 8 Projective
 < 0
 holds 5";
 
-fn rows() -> &'static str {
+pub(crate) fn rows() -> &'static str {
     ROWS
 }
 

@@ -115,12 +115,22 @@ fn bytes_fit(alloc: Global, bytes: &[u8], pattern: &str) -> Result<bool, Fail> {
 
 /// Whether the row's answer is as it says.
 pub(crate) fn holds<R: Threads + AllocGlobal + Sync>(rt: &R, row: &str) -> Result<bool, Fail> {
+    holds_with(rt, row, "")
+}
+
+/// The same, with these words behind the row's own.
+pub(crate) fn holds_with<R: Threads + AllocGlobal + Sync>(
+    rt: &R,
+    row: &str,
+    more: &str,
+) -> Result<bool, Fail> {
     let alloc = rt.alloc();
     let (head, rest) = row.split_once("\n").ok_or("no input")?;
     let (_, words) = head.split_once(" |").ok_or("no words")?;
     let (input, rest) = rest.split_once("\n< ").ok_or("no status")?;
     let (status, text) = rest.split_once("\n").ok_or("no text")?;
-    let found = answer(rt, words, ended(alloc, input)?)?;
+    let words = format!(in alloc; "{words} {more}")?;
+    let found = answer(rt, words.as_str(), ended(alloc, input)?)?;
     if status.parse() != Ok(found.status) {
         return Ok(false);
     }
@@ -128,11 +138,18 @@ pub(crate) fn holds<R: Threads + AllocGlobal + Sync>(rt: &R, row: &str) -> Resul
 }
 
 /// Whether `check` accepts the report that `run` writes to the row's script.
-pub(crate) fn is_accepted<R: Threads + AllocGlobal + Sync>(rt: &R, row: &str) -> Result<bool, Fail> {
+pub(crate) fn is_accepted<R: Threads + AllocGlobal + Sync>(
+    rt: &R,
+    row: &str,
+) -> Result<bool, Fail> {
     let (_, rest) = row.split_once("\n").ok_or("no input")?;
     let (input, _) = rest.split_once("\n< ").ok_or("no status")?;
     let report = answer(rt, "run", ended(rt.alloc(), input)?)?;
-    let verdict = answer(rt, "check", Vec::from_slice(rt.alloc(), report.text.as_slice())?)?;
+    let verdict = answer(
+        rt,
+        "check",
+        Vec::from_slice(rt.alloc(), report.text.as_slice())?,
+    )?;
     let shared = answer(rt, "check --workers 16", report.text)?;
     Ok(verdict.status == 0 && shared.status == 0)
 }
