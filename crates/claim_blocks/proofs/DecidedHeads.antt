@@ -1,7 +1,7 @@
 -- Whether the lines of a claim may follow its first line is decided.
 use Rattle.std.specs.Prelude.{slice_index}
-use Rattle.std.proofs.Common.{◌≡◌, ℕ, zero, suc, ◌≤◌, ◌<◌, List, length, inl, inr, arith}
-use Rattle.std.proofs.lemmas.Bool.{cases_eq}
+use Rattle.std.proofs.Common.{◌≡◌, ℕ, zero, suc, ◌+◌, ◌≤◌, ◌<◌, ◌^◌, List, length, inl, inr, subst, arith}
+use Rattle.std.proofs.lemmas.Bool.{cases_eq, cases_lt}
 use Rattle.std.proofs.lemmas.List.Elements.{All-from_get_or}
 use Rattle.linear_algebra.specs.BlockFamilies.{total}
 use Rattle.quiver_paths.specs.Quiver.{vertex_count}
@@ -12,15 +12,18 @@ use Rattle.report_types.specs.declared.claims.Claim.TheVariants as claim
 use Rattle.report_types.specs.declared.claims.Record.{Record}
 use Rattle.report_types.specs.ClaimBlocks.{vertices_of, dual_dim}
 use Rattle.report_types.specs.Limits.{unknown_limit, term_limit, resolution_limit}
-use Rattle.report_types.specs.NamedClaims.{HasLength, IsHomClaim}
-use Rattle.report_types.specs.Numbers.{claim_of}
+use Rattle.report_types.specs.NamedClaims.{HasLength, IsHomClaim, IsLocalClaim}
+use Rattle.report_types.specs.Numbers.{module_of, claim_of}
+use Rattle.report_types.specs.WordDimensions.{dim_of}
 use Rattle.claim_lines.specs.declared.heads.Head.{Head}
 use Rattle.claim_lines.specs.declared.heads.Head.TheVariants as head
 use Rattle.claim_blocks.specs.declared.row_block.Space.{Space}
 use Rattle.claim_blocks.specs.declared.row_block.Space.TheVariants as space
+use Rattle.claim_blocks.specs.declared.sequence_block.Sequence.{Sequence}
 use Rattle.claim_blocks.specs.Blocks.{FitsHead}
 use Rattle.claim_blocks.specs.RowBlocks.{width_of, FitsSpace, FitsRows}
-use Rattle.claim_blocks.specs.VertexBlocks.{FitsPresentation}
+use Rattle.claim_blocks.specs.SequenceBlocks.{sequence_of, AreNarrow, FitsSequence}
+use Rattle.claim_blocks.specs.VertexBlocks.{FitsPresentation, dual_dims}
 
 length_decided : (c : Claim) (n : ℕ) → Decided (HasLength c n)
 length_decided (claim.Resolution a m terms) n = cases_eq m n
@@ -52,6 +55,32 @@ hom_decided (claim.Decomposition a s f g parts) = inr (λ x. x)
 hom_decided (claim.Translate which m a c rows) = inr (λ x. x)
 hom_decided (claim.AlmostSplit m e a f g c l phi left middle) = inr (λ x. x)
 
+pub local_decided : (c : Claim) → Decided (IsLocalClaim c)
+local_decided (claim.Local m c ideal power residue) = inl tt
+local_decided (claim.Basis words steps rules) = inr (λ x. x)
+local_decided (claim.Module m) = inr (λ x. x)
+local_decided (claim.Map f) = inr (λ x. x)
+local_decided (claim.Hom a b rows) = inr (λ x. x)
+local_decided (claim.Resolution a m terms) = inr (λ x. x)
+local_decided (claim.Kernel m f i) = inr (λ x. x)
+local_decided (claim.Cokernel m f i) = inr (λ x. x)
+local_decided (claim.Radical m a i) = inr (λ x. x)
+local_decided (claim.Ext m a b rows c) = inr (λ x. x)
+local_decided (claim.Decomposition a s f g parts) = inr (λ x. x)
+local_decided (claim.Translate which m a c rows) = inr (λ x. x)
+local_decided (claim.AlmostSplit m e a f g c l phi left middle) = inr (λ x. x)
+
+-- of all numbers below a number
+all_below : (P : ℕ → Type 0) → ((k : ℕ) → Decided (P k)) → (n : ℕ) → Decided ((k : ℕ) → k < n → P k)
+all_below P each zero = inl (λ k l. absurd (omega (arith, l)))
+all_below P each (suc n) = like (λ g k l. one_more P n k g.0 g.1 l) (λ f. (λ k l. f k (omega (arith, l)), f n (omega arith))) (both (all_below P each n) (each n))
+  where
+    one_more : (P : ℕ → Type 0) (n k : ℕ) → ((j : ℕ) → j < n → P j) → P n → k < suc n → P k
+    one_more P n k before last l = elim (cases_lt k n) [
+      | inl less ↦ before k less
+      | inr past ↦ subst P (let e : n ≡ k = omega (arith, l, past) in e) last
+    ]
+
 -- of both terms of a presentation
 of_both : (P : ℕ → Type 0) (k : ℕ) → P 0 → P 1 → k ≤ 1 → P k
 of_both P zero first second l = first
@@ -82,6 +111,14 @@ module _ (h : Header) (rs : List Record) where
       (three (length_decided (claim_of rs c) 1) (both_decided (λ k. total (vertex_count h.quiver) (dual_dim h rs c k) ≤ term_limit) (small 0) (small 1))
       (both_decided (λ k. (j : ℕ) → j < length (vertices_of h rs c k) → slice_index (vertices_of h rs c k) j < 256) (places 0) (places 1)))
 
+  narrow_decided : (dims : List ℕ) (a : ℕ) → Decided (AreNarrow h rs dims a)
+  narrow_decided dims a = all_below (λ w. slice_index dims w + dim_of h (module_of rs a) w < 2 ^ 32) (λ w. below (slice_index dims w + dim_of h (module_of rs a) w) (2 ^ 32)) (vertex_count h.quiver)
+
+  sequence_decided : (s : Sequence) → Decided (FitsSequence h rs s)
+  sequence_decided s =
+      like (λ g. record { presentation = g.0; is_local = g.1; narrow = g.2 }) (λ g. (g.presentation, g.is_local, g.narrow))
+      (three (presentation_decided s.resolution) (local_decided (claim_of rs s.local)) (narrow_decided (dual_dims h rs s.resolution) s.right))
+
   pub lines_decided : (x : Head) → Decided (FitsHead h rs x)
   lines_decided (head.Hom a b count) = rows_decided (space.Hom a b) count
   lines_decided (head.Ext n a b count c) = rows_decided (space.Ext n a b c) count
@@ -95,4 +132,4 @@ module _ (h : Header) (rs : List Record) where
   lines_decided (head.Resolution a n) = at_most n resolution_limit
   lines_decided (head.Decomposition a s f g parts) = inr (λ x. x)
   lines_decided (head.Translate which n a c) = presentation_decided c
-  lines_decided (head.AlmostSplit n e a f g c l) = inr (λ x. x)
+  lines_decided (head.AlmostSplit n e a f g c l) = sequence_decided (sequence_of n e a f g c l)

@@ -1,29 +1,34 @@
 -- The lines behind the first line of a claim are read, and lead to its record.
 use Rattle.std.proofs.Common.{◌≡◌, ℕ, zero, suc, ◌<◌, ◌≤◌, ◌^◌, Bool, true, false, List, [], ◌∷◌, ◌++◌, length, cond, Some, None, inl, inr, refl, sym, ap, ◌∙◌, subst, arith}
-use Rattle.std.specs.Prelude.{Option, take, slice_get, slice_index}
+use Rattle.std.specs.Prelude.{All, Option, take, slice_get, slice_index}
 use Rattle.std.proofs.lemmas.Bool.{cases_lt}
 use Rattle.std.proofs.lemmas.List.{take-append-le, get_or_past}
+use Rattle.std.proofs.lemmas.List.Elements.{All-append, All-weaker}
 use Rattle.quiver_paths.specs.Quiver.{vertex_count}
 use Rattle.path_algebra.specs.declared.Header.{Header}
 use Rattle.header_text.specs.Named.{IsNamed}
+use Rattle.module_types.specs.declared.Module.{Module}
 use Rattle.module_types.specs.declared.TermRows.{TermRows}
+use Rattle.module_types.specs.Shapes.{dimension, most_dimension}
 use Rattle.claim_conditions.specs.Terms.{vertices_at}
 use Rattle.report_types.specs.declared.claims.Claim.{Claim}
 use Rattle.report_types.specs.declared.claims.Claim.TheVariants as claim
 use Rattle.report_types.specs.declared.claims.Record.{Record}
 use Rattle.report_types.specs.Limits.{resolution_limit}
-use Rattle.report_types.specs.Numbers.{record_of, claim_in, claim_of}
+use Rattle.report_types.specs.Numbers.{modules_of, record_of, claim_in, claim_of}
 use Rattle.report_types.specs.NamedClaims.{HasLength, terms_in}
-use Rattle.report_types.specs.Lawful.{MayBeRecord}
+use Rattle.report_types.specs.Lawful.{IsModuleBlock, IsRecord, MayBeRecord}
 use Rattle.report_types.specs.ClaimBlocks.{IsClaimBlock}
+use Rattle.report_types.proofs.Fronts.{all_modules}
 use Rattle.claim_blocks.specs.declared.block.Block.{Block}
 use Rattle.claim_blocks.specs.Leading.{Leads}
-use Rattle.claim_blocks.specs.Blocks.{AreDeclared, BlockStep, whole_block, block_claim}
+use Rattle.claim_blocks.specs.Blocks.{AreDeclared, AreSmall, BlockStep, whole_block, block_claim}
 use Rattle.claim_blocks.proofs.BlockLaws.{whole_stops, block_clear}
+use Rattle.claim_blocks.proofs.ContextReading.{small_modules}
 use Rattle.claim_text.specs.declared.part.Place.TheVariants as place
 use Rattle.claim_text.specs.declared.part.Part.{Part}
 use Rattle.claim_text.specs.Part.{unclaimed, here, counts_of, claimed, at_block}
-use Rattle.claim_text.proofs.ObjectLists.{get-left, get-past}
+use Rattle.claim_text.proofs.ObjectLists.{modules_push, get-left, get-past}
 use Rattle.claim_text.proofs.Runs.{Run, run_none, run_line}
 
 -- behind all lines, and among them
@@ -117,6 +122,19 @@ terms_declared h p each zero = no_terms h
 terms_declared h p each (suc i) =
     with_last (λ o. AtVertices h (terms_in (claim_in o))) p.records (unclaimed p) i (no_terms h) (no_terms h)
     (λ k. record_declared h (take (suc k) p.records) (slice_get p.records k) (each (suc k)))
+
+-- behind lawful records and lawful modules, each module that may be named has at most the largest dimension
+abbrev HasSmallDimension : Module → Type 0
+HasSmallDimension m = dimension m.dims ≤ most_dimension
+
+blocks_small : (h : Header) (ms : List Module) → All (IsModuleBlock h) ms → All HasSmallDimension ms
+blocks_small h ms are = All-weaker (IsModuleBlock h) HasSmallDimension (λ m is. is.small) ms are
+
+pub modules_small : (h : Header) (p : Part) → ((k : ℕ) → MayBeRecord h (take k p.records) (record_of p.records k)) → All (IsModuleBlock h) p.modules → AreSmall (here p)
+modules_small h p each are =
+    let records_small = all_modules HasSmallDimension p.records (λ i r e. let is : IsRecord h (take (suc i) p.records) r = subst (λ o. MayBeRecord h (take (suc i) p.records) o) e (each (suc i)) in blocks_small h r.modules is.modules) in
+    small_modules (here p)
+    (subst (All HasSmallDimension) (sym (modules_push p.records (unclaimed p))) (All-append HasSmallDimension (modules_of p.records) p.modules records_small (blocks_small h p.modules are)))
 
 -- the records before some others
 pub each_before : (h : Header) (done rest : List Record) → ((k : ℕ) → MayBeRecord h (take k (done ++ rest)) (record_of (done ++ rest) k)) → (k : ℕ) → MayBeRecord h (take k done) (record_of done k)

@@ -34,7 +34,7 @@ use Rattle.report_types.specs.Numbers.{modules_of, maps_of, record_of, claim_of,
 use Rattle.report_types.specs.NamedClaims.{HasLength, IsLocalClaim}
 use Rattle.report_types.specs.ClaimBlocks.{IsClaimBlock, IsPart, HasTranslateShape}
 use Rattle.report_types.specs.Ends.{IsEmptyEnd, IsFullEnd}
-use Rattle.report_types.specs.Lawful.{IsRecord, HasItsPlace, MayBeRecord, IsReport}
+use Rattle.report_types.specs.Lawful.{IsModuleBlock, IsRecord, HasItsPlace, MayBeRecord, IsReport}
 use Rattle.claim_lines.specs.declared.heads.Head.{Head}
 use Rattle.claim_lines.specs.declared.heads.Head.TheVariants as head
 use Rattle.claim_lines.specs.Spelling.{title_line, claim_line, end_line}
@@ -53,7 +53,7 @@ use Rattle.claim_text.proofs.Runs.{Run, run_none, run_line, run_append, taken}
 use Rattle.claim_blocks.specs.Blocks.{FitsHead as FitsLines, HasBlock, begin_block}
 use Rattle.claim_blocks.proofs.BlockLaws.{block_read as block_read_whole}
 use Rattle.claim_blocks.proofs.Carried.{block_too}
-use Rattle.claim_text.proofs.CompleteLines.{lines_read, resolution_short, terms_declared, each_before}
+use Rattle.claim_text.proofs.CompleteLines.{lines_read, resolution_short, terms_declared, modules_small, each_before}
 use Rattle.claim_text.proofs.ObjectLists.{same_modules, same_maps, modules_push, modules_count, maps_count, claim_earlier, record_behind, modules_append, maps_append}
 use Rattle.claim_text.proofs.OtherLines.{one_item, item_clear}
 use Rattle.claim_text.proofs.CompleteObjects.{between, modules_read, maps_read}
@@ -101,7 +101,7 @@ module _ (h : Header) (ok : IsAllowed h) where
 
   -- ---- claims
 
-  module _ (rs : List Record) (ms : List Module) (fs : List Map) (some : 0 < length rs) (room : length rs + 1 < 2 ^ 32) (few_modules : length (modules_of rs) + length ms < 2 ^ 32) (few_maps : length (maps_of rs) + length fs < 2 ^ 32) where
+  module _ (rs : List Record) (ms : List Module) (fs : List Map) (some : 0 < length rs) (room : length rs + 1 < 2 ^ 32) (few_modules : length (modules_of rs) + length ms < 2 ^ 32) (few_maps : length (maps_of rs) + length fs < 2 ^ 32) (lawful : All (IsModuleBlock h) ms) where
     abbrev p : Part
     p = between h ok rs ms fs
 
@@ -157,7 +157,7 @@ module _ (h : Header) (ok : IsAllowed h) where
         let x = head_of c in
         let there : IsClaimBlock h (here p) c =
         block_too h rs record { line = line; modules = ms; maps = fs; claim = c } (unclaimed p) refl refl some c block in
-        let whole = block_read_whole h named (here p) (terms_declared h p each) c has there in
+        let whole = block_read_whole h named (here p) (terms_declared h p each) (modules_small h p each lawful) c has there in
         let fits = fits_head line x record { room = room; is_line = is; numbers = numbers } read (kind (some, whole.fits)) in
         let first = begin_block h (here p) x in
         let lines = lines_read q named fits.few_modules fits.few_maps first whole.last (claim_block h c) whole.leads whole.whole in
@@ -233,7 +233,7 @@ module _ (h : Header) (ok : IsAllowed h) where
       (modules_read h ok rs [] r.modules M some (omega arith) (omega (arith, m, few_modules)) is.modules)
       (run_append (between h ok rs r.modules []) (between h ok rs r.modules r.maps) (between h ok (rs ++ r ∷ []) [] []) (map_lines h F r.maps) (claim_line (length rs + 1) r.line (head_of r.claim) ∷ claim_block h r.claim)
       (maps_read h ok rs (rs ++ r ∷ []) r.modules [] r.maps F some (modules_push rs r) (omega arith) (omega (arith, f, few_maps)) (omega (arith, m, few_modules)) is.maps)
-      (claim_read rs r.modules r.maps some room (omega (arith, m, few_modules)) (omega (arith, f, few_maps)) r.line r.claim before is.line read is.place is.claim))
+      (claim_read rs r.modules r.maps some room (omega (arith, m, few_modules)) (omega (arith, f, few_maps)) is.modules r.line r.claim before is.line read is.place is.claim))
 
   records_read : (done todo : List Record) → 0 < length done → length (done ++ todo) < 2 ^ 32 → length (modules_of (done ++ todo)) < 2 ^ 32 → length (maps_of (done ++ todo)) < 2 ^ 32
       → ((k : ℕ) → MayBeRecord h (take k (done ++ todo)) (record_of (done ++ todo) k)) → All (λ (r : Record). IsJudged r.claim) todo

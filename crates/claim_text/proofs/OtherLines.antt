@@ -16,8 +16,6 @@ use Rattle.object_lines.specs.Items.{head_line}
 use Rattle.object_lines.proofs.OneLine.{module_one, map_one, at_one}
 use Rattle.object_lines.proofs.DecidedLines.{module_decided, map_decided, at_decided}
 use Rattle.object_lines.proofs.ClearLines.{StandsOutside, at_clear, module_clear, map_clear}
-use Rattle.report_types.specs.declared.claims.Claim.{Claim}
-use Rattle.report_types.specs.declared.claims.Claim.TheVariants as claim
 use Rattle.report_types.specs.declared.claims.PartClaim.{PartClaim}
 use Rattle.report_types.specs.declared.reports.End.{End}
 use Rattle.report_types.specs.declared.reports.End.TheVariants.{Done, Refused}
@@ -33,7 +31,7 @@ use Rattle.claim_lines.proofs.ClearClaims.{claim_clear}
 use Rattle.claim_lines.proofs.ClearEnds.{end_clear}
 use Rattle.claim_lines.proofs.DecidedClaims.{one_claim, claim_decided}
 use Rattle.claim_lines.proofs.DecidedEnds.{one_end, end_decided}
-use Rattle.claim_blocks.proofs.DecidedHeads.{lines_decided}
+use Rattle.claim_blocks.proofs.DecidedHeads.{local_decided, lines_decided}
 use Rattle.claim_text.specs.declared.part.Owner.{Owner}
 use Rattle.claim_text.specs.declared.part.Owner.TheVariants as owner
 use Rattle.claim_text.specs.declared.part.Part.{Part}
@@ -156,21 +154,6 @@ module _ (p : Part) (named : IsNamed p.front.header.quiver) (few : length p.fron
       by (inl ok) =
           like (λ g. (g.0, (record { behind_basis = ok.0; few_modules = ok.1; room = ok.2; named_source = g.1.from; named_target = g.1.to }, g.2)))
           (λ g. (g.0, record { from = g.1.0.named_source; to = g.1.0.named_target }, g.1.1)) (map_decided ((counts_of p).maps + 1) (counts_of p).modules (wide (counts_of p).modules ok.1) ts)
-
-  local_decided : (c : Claim) → Decided (IsLocalClaim c)
-  local_decided (claim.Local a c ideal power residue) = inl tt
-  local_decided (claim.Basis words steps rules) = inr (λ x. x)
-  local_decided (claim.Module a) = inr (λ x. x)
-  local_decided (claim.Map f) = inr (λ x. x)
-  local_decided (claim.Hom a b rows) = inr (λ x. x)
-  local_decided (claim.Kernel a f i) = inr (λ x. x)
-  local_decided (claim.Cokernel a f i) = inr (λ x. x)
-  local_decided (claim.Radical a b i) = inr (λ x. x)
-  local_decided (claim.Resolution a k terms) = inr (λ x. x)
-  local_decided (claim.Ext k a b rows c) = inr (λ x. x)
-  local_decided (claim.Decomposition a s f g parts) = inr (λ x. x)
-  local_decided (claim.Translate which a b c rows) = inr (λ x. x)
-  local_decided (claim.AlmostSplit a e b f g c l phi left middle) = inr (λ x. x)
 
   kind_decided : (x : Head) → Decided (FitsKind p x)
   kind_decided head.Basis = like (λ g. record { first = g.0; no_module = g.1; no_map = g.2 }) (λ g. (g.first, g.no_module, g.no_map)) (three (no_item p.records) (no_item p.modules) (no_item p.maps))
