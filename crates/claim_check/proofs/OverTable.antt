@@ -1,6 +1,5 @@
 -- The words of a table in the place of any normal words of the header: an allowed header has one list of them.
-use Rattle.std.proofs.Common.{◌≡◌, List, length, sym, subst}
-use Rattle.std.specs.Prelude.{◌≤◌}
+use Rattle.std.proofs.Common.{◌≡◌, List, subst}
 use Rattle.quiver_paths.specs.declared.Path.{Path}
 use Rattle.quiver_paths.specs.PathOrder.{IsSmaller}
 use Rattle.quiver_paths.proofs.PathOrderLemmas.{IsSmaller-irreflexive, IsSmaller-asymmetric}

@@ -1,7 +1,6 @@
 -- Resolutions: what the format asks of them, over the whole report, and what their deciders ask.
 use Rattle.std.proofs.Common.{ℕ, zero, suc, ◌≡◌, ◌≤◌, ◌<◌, List, length, refl, sym, ap, ◌∙◌, subst, arith}
 use Rattle.std.specs.Prelude.{Option, take, slice_index, slice_index_or, []}
-use Rattle.fp_linear.specs.Matrix.{PlainMatrix}
 use Rattle.linear_algebra.specs.Field.{Gf}
 use Rattle.linear_algebra.specs.Rows.{IsRow}
 use Rattle.linear_algebra.specs.BlockFamilies.{total}
@@ -19,7 +18,6 @@ use Rattle.module_types.specs.declared.Side.TheVariants.{Right, Left}
 use Rattle.module_types.specs.declared.Module.{Module}
 use Rattle.module_types.specs.declared.TermRows.{TermRows}
 use Rattle.module_types.specs.Shapes.{IsTerm}
-use Rattle.module_types.specs.Readings.{dim_at}
 use Rattle.module_checks.proofs.Walks.{dim_within}
 use Rattle.claim_conditions.specs.declared.Clause.{Clause}
 use Rattle.claim_conditions.specs.Conditions.{IsAnswer}
@@ -33,7 +31,7 @@ use Rattle.report_types.specs.declared.claims.Claim.TheVariants as claim
 use Rattle.report_types.specs.declared.claims.Record.{Record}
 use Rattle.report_types.specs.declared.reports.Report.{Report}
 use Rattle.report_types.specs.Limits.{term_limit}
-use Rattle.report_types.specs.Numbers.{module_of, claim_in, claim_of, record_of, NamesClaim}
+use Rattle.report_types.specs.Numbers.{module_of, claim_in, claim_of, NamesClaim}
 use Rattle.report_types.specs.NamedClaims.{HasLength}
 use Rattle.report_types.specs.ClaimBlocks.{IsResolutionBlock, IsClaimBlock}
 use Rattle.report_types.specs.Lawful.{IsReport, IsModuleBlock, HasItsPlace}

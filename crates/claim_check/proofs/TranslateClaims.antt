@@ -1,17 +1,15 @@
 -- Claims over a named resolution: extensions, translates and transposes. What the format asks of them, over the whole report; the answers on them, and those
 -- over the records up to the claim.
-use Rattle.std.proofs.Common.{ℕ, zero, suc, ◌≡◌, ◌≤◌, ◌<◌, List, length, Some, refl, sym, ap, ◌∙◌, subst, arith}
+use Rattle.std.proofs.Common.{ℕ, suc, ◌≡◌, ◌≤◌, ◌<◌, List, length, Some, refl, sym, ap, ◌∙◌, subst, arith}
 use Rattle.std.specs.Prelude.{⊤, Option, take, slice_index_or}
 use Rattle.std.proofs.lemmas.List.{take-take}
 use Rattle.fp_linear.specs.Matrix.{PlainMatrix}
 use Rattle.linear_algebra.specs.BlockFamilies.{total}
 use Rattle.linear_algebra.proofs.BlockFamilies.{total_grows}
-use Rattle.quiver_paths.specs.declared.Path.{Path}
 use Rattle.quiver_paths.specs.Quiver.{vertex_count}
 use Rattle.path_algebra.specs.declared.Header.{Header}
 use Rattle.bound_algebra.specs.TypedPaths.{quiver_of}
 use Rattle.alg_table.specs.TableView.{TableView}
-use Rattle.representations.specs.Rep.{Rep}
 use Rattle.module_types.specs.declared.Side.{Side}
 use Rattle.module_types.specs.declared.Side.TheVariants.{Right, Left}
 use Rattle.module_types.specs.declared.Module.{Module}
@@ -39,8 +37,8 @@ use Rattle.report_types.specs.declared.reports.Report.{Report}
 use Rattle.report_types.specs.Limits.{term_limit, unknown_limit}
 use Rattle.report_types.specs.Numbers.{module_of, claim_of, claim_in, NamesModule}
 use Rattle.report_types.specs.NamedClaims.{HasLength, IsResolutionOf, resolved_in, terms_in}
-use Rattle.report_types.specs.ClaimBlocks.{IsClaimBlock, IsResolutionBlock, NamesResolution, IsPresentation, IsExtensionBlock, IsTranslateBlock, AreRows, dual_dim, side_of, vertices_of, HasTranslateShape, AtVertices}
-use Rattle.report_types.specs.WordDimensions.{printed_words, projective_dim, injective_dim, dim_of, count_at}
+use Rattle.report_types.specs.ClaimBlocks.{IsClaimBlock, IsResolutionBlock, NamesResolution, IsPresentation, IsExtensionBlock, IsTranslateBlock, AreRows, dual_dim, HasTranslateShape, AtVertices}
+use Rattle.report_types.specs.WordDimensions.{printed_words, injective_dim, dim_of, count_at}
 use Rattle.report_types.specs.declared.claims.Translation.{Translation}
 use Rattle.report_types.specs.Lawful.{IsReport}
 use Rattle.report_types.proofs.Fronts.{module_in_whole, claim_in_whole, record_there, named_below}
@@ -50,7 +48,7 @@ use Rattle.claim_check.specs.ClaimVerdicts.{IsTableOf}
 use Rattle.claim_check.proofs.Named.{names_module, names_claim, record_lawful}
 use Rattle.claim_check.proofs.WhatNumbersSay.{behind_first, named_swap}
 use Rattle.claim_check.proofs.ByNumbers.{whole_module, whole_claim}
-use Rattle.claim_check.proofs.ResolutionClaims.{same_sum, sum_within, whole_words, term_room}
+use Rattle.claim_check.proofs.ResolutionClaims.{same_sum, whole_words, term_room}
 
 -- ---- over the whole report
 
@@ -106,10 +104,11 @@ module _ (report : Report) (is : IsReport report) (k : ℕ) (l : 1 < length (tak
   shape_in_whole Transpose n c rows nm x s =
       subst (λ m. AtVertices report.header report.records (dual_dim report.header report.records c 1) (dim_of report.header m) rows) (module_in_whole k report.records n nm)
       (subst (λ d. AtVertices report.header report.records d (dim_of report.header (module_of (take k report.records) n)) rows) (dual_in_whole report is k c 1 x l 1) s)
-  shape_in_whole (Taui b) n c rows nm x s =
-      (names_module k report.records b s.0,
-      subst (λ m. AtVertices report.header report.records (dual_dim report.header report.records c 1) (dim_of report.header m) rows) (module_in_whole k report.records n nm)
-      (subst (λ d. AtVertices report.header report.records d (dim_of report.header (module_of (take k report.records) n)) rows) (dual_in_whole report is k c 1 x l 1) s.1))
+  shape_in_whole (Taui b) n c rows nm x s = (
+    names_module k report.records b s.0,
+    subst (λ m. AtVertices report.header report.records (dual_dim report.header report.records c 1) (dim_of report.header m) rows) (module_in_whole k report.records n nm)
+        (subst (λ d. AtVertices report.header report.records d (dim_of report.header (module_of (take k report.records) n)) rows) (dual_in_whole report is k c 1 x l 1) s.1),
+  )
 
   pub presentation_in_whole : (c : ℕ) → IsPresentation report.header (take k report.records) c → IsPresentation report.header report.records c
   presentation_in_whole c p = record {

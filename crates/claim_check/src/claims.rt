@@ -164,7 +164,14 @@ pub fn check_claim(table: &Table, report: &Report, k: u32, scratch: &mut Scratch
     let Some(item) = report.records.record_at(k) else {
         unreachable!()
     };
-    match first_failing(table, report, k, item, &mut scratch.bytes, &mut scratch.numbers) {
+    match first_failing(
+        table,
+        report,
+        k,
+        item,
+        &mut scratch.bytes,
+        &mut scratch.numbers,
+    ) {
         Some(clause) => Verdict::Fails { claim: k, clause },
         None => Verdict::Holds,
     }

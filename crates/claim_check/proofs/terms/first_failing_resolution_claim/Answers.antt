@@ -1,4 +1,4 @@
-use Rattle.std.proofs.Common.{suc, sym, subst, arith, length}
+use Rattle.std.proofs.Common.{suc, subst, arith}
 use Rattle.claim_conditions.specs.Conditions.{IsAnswer}
 use Rattle.claim_conditions.specs.Modules.{Sides}
 use Rattle.claim_conditions.specs.ResolutionConditions.{resolution_conditions}

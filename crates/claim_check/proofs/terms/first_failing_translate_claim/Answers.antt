@@ -3,7 +3,6 @@ use Rattle.claim_conditions.specs.Conditions.{IsAnswer}
 use Rattle.report_types.specs.declared.claims.Claim.TheVariants as claim
 use Rattle.report_types.specs.Conditions.{claim_conditions}
 use Rattle.report_types.specs.Verdicts.{sides_by}
-use Rattle.report_types.specs.ClaimBlocks.{IsTranslateBlock}
 use Rattle.claim_check.proofs.terms.first_failing_translate_claim.Goals as goal
 
 pub returns-in-Tau : goal.returns-in-Tau
