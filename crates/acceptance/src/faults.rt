@@ -3,6 +3,7 @@
 use crate::tables::{answer, failing_answer};
 use std::alloc::Global;
 use std::test::Fail;
+use std::thread::Threads;
 
 const SCRIPT: &str = "field 3\nvertex v\narrow x v v\nbound 4\nrelation x.x + x.x.x\nbasis\n";
 
@@ -12,7 +13,7 @@ fn script(alloc: Global) -> Result<Vec<u8>, Fail> {
 }
 
 /// Its report.
-fn report(rt: &HostRuntime) -> Result<Vec<u8>, Fail> {
+fn report<R: Threads + AllocGlobal + Sync>(rt: &R) -> Result<Vec<u8>, Fail> {
     Ok(answer(rt, "run", script(rt.alloc())?)?.text)
 }
 

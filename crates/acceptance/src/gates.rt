@@ -26,7 +26,7 @@ end 3
 /// Raises the first flag, and waits for a while until the second one is raised. Where it was, one more is counted.
 fn meet(own: &AtomicU64, other: &AtomicU64, seen: &AtomicU64) {
     own.store(1, Ordering::SeqCst);
-    for _ in 0..100_000_000u32 {
+    for _ in 0..2_000_000_000u32 {
         if other.load(Ordering::SeqCst) == 1 {
             seen.fetch_add(1, Ordering::SeqCst);
             return;

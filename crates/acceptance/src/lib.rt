@@ -33,3 +33,5 @@ mod tables;
 mod term_reports;
 #[cfg(test)]
 mod translate_reports;
+#[cfg(test)]
+mod words;

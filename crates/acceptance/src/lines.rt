@@ -4,9 +4,10 @@
 
 use crate::tables::{answer, ended};
 use std::test::Fail;
+use std::thread::Threads;
 
 /// Whether the program names the row's line as the first bad one.
-fn is_named(rt: &HostRuntime, words: &str, head: &str, row: &str) -> Result<bool, Fail> {
+fn is_named<R: Threads + AllocGlobal + Sync>(rt: &R, words: &str, head: &str, row: &str) -> Result<bool, Fail> {
     let alloc = rt.alloc();
     let (first, rest) = row.split_once("\n").ok_or("no text")?;
     let line = match first.split_once(" ") {
@@ -24,8 +25,8 @@ fn is_named(rt: &HostRuntime, words: &str, head: &str, row: &str) -> Result<bool
 }
 
 /// The first row of a table, with this text before each, whose line is not named.
-pub(crate) fn wrong_row<'a>(
-    rt: &HostRuntime,
+pub(crate) fn wrong_row<'a, R: Threads + AllocGlobal + Sync>(
+    rt: &R,
     words: &str,
     head: &str,
     table: &'a str,

@@ -1,4 +1,4 @@
-//! What `run` answers to scripts, and what is answered to words that ask for nothing.
+//! What `run` answers to scripts.
 
 use crate::tables::{holds, is_accepted};
 use std::test::Fail;
@@ -451,85 +451,8 @@ steps 0
 rules 0
 refused 5 NotBuilt";
 
-/// Words that ask for nothing.
-const WORDS: &str = "
-> no words |
-field 2
-vertex 1
-bound 2
-basis
-< 5
-usage: quiv run|check [--workers K] | quiv gen --seed S --size N
-> another word | walk
-field 2
-vertex 1
-bound 2
-basis
-< 5
-usage: quiv run|check [--workers K] | quiv gen --seed S --size N
-> a word too many | run extra
-field 2
-vertex 1
-bound 2
-basis
-< 5
-usage: quiv run|check [--workers K] | quiv gen --seed S --size N
-> two modes | run check
-field 2
-vertex 1
-bound 2
-basis
-< 5
-usage: quiv run|check [--workers K] | quiv gen --seed S --size N
-> a number of the generator with run | run --seed 1
-field 2
-vertex 1
-bound 2
-basis
-< 5
-usage: quiv run|check [--workers K] | quiv gen --seed S --size N
-> one number of the generator alone | gen --seed 1
-field 2
-vertex 1
-bound 2
-basis
-< 5
-usage: quiv run|check [--workers K] | quiv gen --seed S --size N
-> too many workers | check --workers 17
-field 2
-vertex 1
-bound 2
-basis
-< 5
-usage: quiv run|check [--workers K] | quiv gen --seed S --size N
-> no worker | run --workers 0
-field 2
-vertex 1
-bound 2
-basis
-< 5
-usage: quiv run|check [--workers K] | quiv gen --seed S --size N
-> a zero in front | check --workers 03
-field 2
-vertex 1
-bound 2
-basis
-< 5
-usage: quiv run|check [--workers K] | quiv gen --seed S --size N
-> workers without a mode | --workers 3
-field 2
-vertex 1
-bound 2
-basis
-< 5
-usage: quiv run|check [--workers K] | quiv gen --seed S --size N";
-
 fn scripts() -> &'static str {
     SCRIPTS
-}
-
-fn words() -> &'static str {
-    WORDS
 }
 
 #[test]
@@ -544,14 +467,6 @@ fn scripts_have_their_reports(rt: HostRuntime) -> Result<(), Fail> {
 fn reports_are_accepted(rt: HostRuntime) -> Result<(), Fail> {
     for row in scripts().split("\n> ").skip(1) {
         assert!(rt; is_accepted(&rt, row)?, "{row}");
-    }
-    Ok(())
-}
-
-#[test]
-fn words_ask_for_nothing(rt: HostRuntime) -> Result<(), Fail> {
-    for row in words().split("\n> ").skip(1) {
-        assert!(rt; holds(&rt, row)?, "{row}");
     }
     Ok(())
 }

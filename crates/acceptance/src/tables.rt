@@ -6,6 +6,7 @@
 use quiv_io::{MemorySink, MemorySource};
 use std::alloc::{AllocError, Global};
 use std::test::Fail;
+use std::thread::Threads;
 use top_call::quiv;
 
 /// What a run of the program comes to: its exit status, and what it wrote.
@@ -37,8 +38,8 @@ fn words_of(alloc: Global, text: &str) -> Result<Vec<String>, AllocError> {
 }
 
 /// What the program answers to the input.
-pub(crate) fn answer(
-    rt: &HostRuntime,
+pub(crate) fn answer<R: Threads + AllocGlobal + Sync>(
+    rt: &R,
     words: &str,
     input: Vec<u8>,
 ) -> Result<Written, AllocError> {
@@ -49,8 +50,8 @@ pub(crate) fn answer(
 }
 
 /// The same in pieces of 7 bytes, where this call of the source and this one of the sink fail, counted from 1.
-pub(crate) fn failing_answer(
-    rt: &HostRuntime,
+pub(crate) fn failing_answer<R: Threads + AllocGlobal + Sync>(
+    rt: &R,
     words: &str,
     input: Vec<u8>,
     read: u64,
@@ -63,8 +64,8 @@ pub(crate) fn failing_answer(
 }
 
 /// What the program answers over this source and this sink.
-fn answer_over(
-    rt: &HostRuntime,
+fn answer_over<R: Threads + AllocGlobal + Sync>(
+    rt: &R,
     words: &str,
     mut source: MemorySource,
     mut sink: MemorySink,
@@ -113,7 +114,7 @@ fn bytes_fit(alloc: Global, bytes: &[u8], pattern: &str) -> Result<bool, Fail> {
 }
 
 /// Whether the row's answer is as it says.
-pub(crate) fn holds(rt: &HostRuntime, row: &str) -> Result<bool, Fail> {
+pub(crate) fn holds<R: Threads + AllocGlobal + Sync>(rt: &R, row: &str) -> Result<bool, Fail> {
     let alloc = rt.alloc();
     let (head, rest) = row.split_once("\n").ok_or("no input")?;
     let (_, words) = head.split_once(" |").ok_or("no words")?;
@@ -127,7 +128,7 @@ pub(crate) fn holds(rt: &HostRuntime, row: &str) -> Result<bool, Fail> {
 }
 
 /// Whether `check` accepts the report that `run` writes to the row's script.
-pub(crate) fn is_accepted(rt: &HostRuntime, row: &str) -> Result<bool, Fail> {
+pub(crate) fn is_accepted<R: Threads + AllocGlobal + Sync>(rt: &R, row: &str) -> Result<bool, Fail> {
     let (_, rest) = row.split_once("\n").ok_or("no input")?;
     let (input, _) = rest.split_once("\n< ").ok_or("no status")?;
     let report = answer(rt, "run", ended(rt.alloc(), input)?)?;

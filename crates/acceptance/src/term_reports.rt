@@ -340,7 +340,7 @@ fn rows() -> &'static str {
 #[test]
 fn term_reports_have_their_verdicts(rt: HostRuntime) -> Result<(), Fail> {
     for row in rows().split("\n> ").skip(1) {
-        assert!(rt; holds(rt.alloc(), row)?, "{row}");
+        assert!(rt; holds(&rt, row)?, "{row}");
     }
     Ok(())
 }

@@ -55,7 +55,7 @@ one_asked (a ∷ b ∷ c ∷ d ∷ more) m n j k x y = absurd x
 
 -- words ask for one mode
 pub one_mode : (words : List (List ℕ)) (m n : Mode) → AsksFor words m → AsksFor words n → m ≡ n
-one_mode words m n a b = one_asked words m n a.0 b.0 a.1 b.1
+one_mode words m n a b = one_asked words m n a.workers b.workers a.asks b.asks
 
 -- what was read of a source that tells all it has left
 pub read_all_of : (input given : List ℕ) (left after : Option (List ℕ)) → left ≡ Some input → GivesAll left given after → given ≡ input

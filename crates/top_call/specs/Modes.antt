@@ -27,9 +27,10 @@ AsksWith (a ∷ b ∷ []) mode k = ⊥
 AsksWith (a ∷ b ∷ c ∷ []) mode k = NameBoth b c a mode k ⊎ NameBoth a b c mode k
 AsksWith (a ∷ b ∷ c ∷ d ∷ more) mode k = ⊥
 
--- for the mode, with any number of workers
-abbrev pub AsksFor : List (List ℕ) → Mode → Type 0
-AsksFor words mode = (k : ℕ) × AsksWith words mode k
+-- for the mode, with some number of workers
+pub record AsksFor (words : List (List ℕ)) (mode : Mode) : Type 0 where
+  pub workers : ℕ
+  pub asks : AsksWith words mode workers
 
 -- the most bytes that are read: of a script, and of a report
 abbrev pub input_limit : Mode → ℕ

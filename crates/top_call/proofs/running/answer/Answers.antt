@@ -10,23 +10,23 @@ pub returns-in_default-clause-writes : goal.returns-in_default-clause-writes
 returns-in_default-clause-writes g c =
     line_written (map string_bytes c.args.words.now) (g.S.Source.left c.args.source.now) (g.S.Source.left c.args.source.now) (g.K.Sink.taken c.args.sink.now) (g.K.Sink.taken c.finish.new.sink)
     Usage c.finish.result usage_text (g.K.Sink.faults c.args.sink.now) (g.K.Sink.faults c.finish.new.sink)
-    record { other = λ mode a. c.in_default.ensures mode a.0 a.1; unread = refl; written = refl } c.finish.ensures.outcome
+    record { other = λ mode a. c.in_default.ensures mode a.workers a.asks; unread = refl; written = refl } c.finish.ensures.outcome
 
 pub returns-in-Err-TooLong-clause-writes : goal.returns-in-Err-TooLong-clause-writes
 returns-in-Err-TooLong-clause-writes g c =
     line_written (map string_bytes c.args.words.now) (g.S.Source.left c.args.source.now) (g.S.Source.left c.read_all.new.source) (g.K.Sink.taken c.args.sink.now)
     (g.K.Sink.taken c.finish-in-Err-TooLong.new.sink) TooLong c.finish-in-Err-TooLong.result too_long_text (g.K.Sink.faults c.args.sink.now) (g.K.Sink.faults c.finish-in-Err-TooLong.new.sink)
-    (too_long_is (map string_bytes c.args.words.now) (g.S.Source.left c.args.source.now) (g.S.Source.left c.read_all.new.source) c.in-Some.asked.mode c.input_limit.result (c.in-Some.asked.workers, c.in-Some.ensures.asks)
+    (too_long_is (map string_bytes c.args.words.now) (g.S.Source.left c.args.source.now) (g.S.Source.left c.read_all.new.source) c.in-Some.asked.mode c.input_limit.result record { workers = c.in-Some.asked.workers; asks = c.in-Some.ensures.asks }
     c.input_limit.ensures (rw c.in-Err-TooLong.field-0-is at c.in-Err-TooLong.ensures.refused)) c.finish-in-Err-TooLong.ensures.outcome
 
 pub returns-in-Run-clause-writes : goal.returns-in-Run-clause-writes
 returns-in-Run-clause-writes g c =
     input_answered (map string_bytes c.args.words.now) (g.S.Source.left c.args.source.now) (g.S.Source.left c.read_all.new.source) (g.K.Sink.taken c.args.sink.now)
     (g.K.Sink.taken c.run_input.new.sink) Run c.in-Some.asked.mode c.in-Ok.input.items c.deref.result.now c.input_limit.result c.run_input.result (g.K.Sink.faults c.args.sink.now)
-    (g.K.Sink.faults c.run_input.new.sink) (c.in-Some.asked.workers, c.in-Some.ensures.asks) c.in-Run.is c.input_limit.ensures c.in-Ok.ensures.read c.in-Ok.ensures.within c.deref.ensures.value c.run_input.ensures.ends
+    (g.K.Sink.faults c.run_input.new.sink) record { workers = c.in-Some.asked.workers; asks = c.in-Some.ensures.asks } c.in-Run.is c.input_limit.ensures c.in-Ok.ensures.read c.in-Ok.ensures.within c.deref.ensures.value c.run_input.ensures.ends
 
 pub returns-clause-writes : goal.returns-clause-writes
 returns-clause-writes g c =
     input_answered (map string_bytes c.args.words.now) (g.S.Source.left c.args.source.now) (g.S.Source.left c.read_all.new.source) (g.K.Sink.taken c.args.sink.now)
     (g.K.Sink.taken c.answer_check.new.sink) Check c.in-Some.asked.mode c.in-Ok.input.items c.deref-in-Check.result.now c.input_limit.result c.answer_check.result (g.K.Sink.faults c.args.sink.now)
-    (g.K.Sink.faults c.answer_check.new.sink) (c.in-Some.asked.workers, c.in-Some.ensures.asks) c.in-Check.is c.input_limit.ensures c.in-Ok.ensures.read c.in-Ok.ensures.within c.deref-in-Check.ensures.value c.answer_check.ensures.ends
+    (g.K.Sink.faults c.answer_check.new.sink) record { workers = c.in-Some.asked.workers; asks = c.in-Some.ensures.asks } c.in-Check.is c.input_limit.ensures c.in-Ok.ensures.read c.in-Ok.ensures.within c.deref-in-Check.ensures.value c.answer_check.ensures.ends
