@@ -217,7 +217,7 @@ module _ (h : Header) (ok : IsAllowed h) where
         block_read line c each is read tt block (translate_number line c which n c' rows block.shape, module_number line c n block.is_module, module_number line c a block.named, claim_number line c c' block.presentation.resolution.named) refl (λ fits. fits)
     claim_read line (claim.AlmostSplit n e a f g c' l phi left middle) each is read place block =
         let c = claim.AlmostSplit n e a f g c' l phi left middle in
-        block_read line c each is read (absurd read) block (module_number line c n block.first.is_module, module_number line c e block.second.is_module, module_number line c a block.ends, map_number line c f block.first.is_map, map_number line c g block.second.is_map, claim_number line c c' block.presentation.resolution.named, claim_number line c l block.named) refl (λ fits. fits)
+        block_read line c each is read tt block (module_number line c n block.first.is_module, module_number line c e block.second.is_module, module_number line c a block.ends, map_number line c f block.first.is_map, map_number line c g block.second.is_map, claim_number line c c' block.presentation.resolution.named, claim_number line c l block.named) refl (λ fits. fits)
 
   -- ---- records
 

@@ -184,7 +184,7 @@ module _ (p : Part) (named : IsNamed p.front.header.quiver) (few : length p.fron
   judged_decided (head.Ext k a b count c) = inl tt
   judged_decided (head.Local a c) = inl tt
   judged_decided (head.Translate which a b c) = inl tt
-  judged_decided (head.AlmostSplit a e b f g c l) = inr (λ x. x)
+  judged_decided (head.AlmostSplit a e b f g c l) = inl tt
 
   claim_item : (ts : List (List ℕ)) → Decided ((x : ℕ × Head) × (FitsHead p x.0 x.1 × (ts ≡ claim_line (length p.records + 1) x.0 x.1)))
   claim_item ts = by (both (below (counts_of p).modules (2 ^ 32)) (below (counts_of p).maps (2 ^ 32)))

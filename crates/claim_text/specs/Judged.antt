@@ -1,4 +1,5 @@
--- The kinds of claims that can be judged. A report with a claim of another kind is not read: the first line of such a claim may not follow. Each kind has one line.
+-- The kinds of claims that can be judged, one line each: all of them. A report with a claim of a kind that is not is not read: the first line of such a claim may
+-- not follow.
 use Rattle.std.specs.Prelude.{⊤}
 use Rattle.report_types.specs.declared.claims.Claim.{Claim}
 use Rattle.claim_lines.specs.declared.heads.Head.{Head}
@@ -19,7 +20,7 @@ IsJudgedHead (head.Ext n a b count c) = ⊤
 IsJudgedHead (head.Local m c) = ⊤
 IsJudgedHead (head.Decomposition a s f g parts) = ⊤
 IsJudgedHead (head.Translate which n a c) = ⊤
-IsJudgedHead (head.AlmostSplit n e a f g c l) = ⊥
+IsJudgedHead (head.AlmostSplit n e a f g c l) = ⊤
 
 abbrev pub IsJudged : Claim → Type 0
 IsJudged c = IsJudgedHead (head_of c)

@@ -54,7 +54,7 @@ fn is_judged(head: &Head) -> bool
         Head::Local { .. } => true,
         Head::Decomposition { .. } => true,
         Head::Translate { .. } => true,
-        Head::AlmostSplit { .. } => false,
+        Head::AlmostSplit { .. } => true,
     }
 }
 
