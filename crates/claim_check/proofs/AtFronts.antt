@@ -28,6 +28,7 @@ use Rattle.claim_check.proofs.DecompositionClaims.{decomposition_at_front}
 use Rattle.claim_check.proofs.LocalClaims.{local_at_front}
 use Rattle.claim_check.proofs.ResolutionClaims.{resolution_at_front}
 use Rattle.claim_check.proofs.TranslateClaims.{extension_at_front, tau_at_front, transpose_at_front, taui_at_front}
+use Rattle.claim_check.proofs.SequenceClaims.{sequence_at_front}
 use Rattle.report_types.specs.declared.claims.Translation.TheVariants.{Tau, Transpose, Taui}
 
 module _ (report : Report) (is : IsReport report) (k : ℕ) where
@@ -100,7 +101,8 @@ module _ (report : Report) (is : IsReport report) (k : ℕ) where
     kind_at_front (claim.Translate Tau n a c rows) r j x y = tau_at_front h T k rs r n a c rows x y
     kind_at_front (claim.Translate Transpose n a c rows) r j x y = transpose_at_front h T k rs r n a c rows x y
     kind_at_front (claim.Translate (Taui b) n a c rows) r j x y = taui_at_front h T k rs r n a b c rows x y
-    kind_at_front (claim.AlmostSplit n e a f g c l phi left middle) r j x y = absurd j
+    kind_at_front (claim.AlmostSplit n e a f g c l phi left middle) r j x y =
+        sequence_at_front report is k n e a f g c l phi left middle x T record { functional = phi; left = left; middle = middle } r y
 
     -- ---- the objects of the record before the claim
 

@@ -12,3 +12,4 @@ pub mod Verdicts
 pub mod WhatNumbersSay
 pub mod ResolutionClaims
 pub mod TranslateClaims
+pub mod SequenceClaims

@@ -242,7 +242,7 @@ module _ (h : Header) (T : Sides h) (rs : List Record) (c x m : ℕ) (terms : Li
 
 -- ---- what the deciders ask
 
-matrices_by : (q : Gf) (n : ℕ) (rows other columns more : ℕ → ℕ) (ms : List PlainMatrix) → ((i : ℕ) → rows i ≡ other i) → ((i : ℕ) → columns i ≡ more i) → AreMatrices q n rows columns ms → AreMatrices q n other more ms
+pub matrices_by : (q : Gf) (n : ℕ) (rows other columns more : ℕ → ℕ) (ms : List PlainMatrix) → ((i : ℕ) → rows i ≡ other i) → ((i : ℕ) → columns i ≡ more i) → AreMatrices q n rows columns ms → AreMatrices q n other more ms
 matrices_by q n rows other columns more ms e f m = record {
   counted = m.counted;
   each = λ i a l. subst (λ z. HasShape q (other i) z (slice_index_or ms i a)) (f i) (subst (λ z. HasShape q z (columns i) (slice_index_or ms i a)) (e i) (m.each i a l));
@@ -251,7 +251,7 @@ matrices_by q n rows other columns more ms e f m = record {
 -- a resolution of length 1 that is named, of module x
 module _ (report : Report) (table : TableView) (t : IsTableOf report table) (c x m : ℕ) (terms : List TermRows) (e : claim_of report.records c ≡ claim.Resolution x m terms) (xm : Module) (ex : xm ≡ module_of report.records x) where
   -- the dimensions of what stands for term k on the other side
-  dual_is : (k w : ℕ) → dual_dim report.header report.records c k w ≡ sum_dim table.words (other_side xm.side) (vertices_at terms k) w
+  pub dual_is : (k w : ℕ) → dual_dim report.header report.records c k w ≡ sum_dim table.words (other_side xm.side) (vertices_at terms k) w
   dual_is k w =
       ap (λ z. injective_dim (printed_words report.records) (module_of report.records (resolved_in z)).side (vertices_at (terms_in z) k) w) e
       ∙ (ap (λ (y : Module). injective_dim (printed_words report.records) y.side (vertices_at terms k) w) (sym ex)

@@ -17,7 +17,7 @@ IsJudged (Ext n a b rows c) = ⊤
 IsJudged (Local m c ideal power residue) = ⊤
 IsJudged (Decomposition a s f g parts) = ⊤
 IsJudged (Translate which n a c rows) = ⊤
-IsJudged (AlmostSplit n e a f g c l phi left middle) = ⊥
+IsJudged (AlmostSplit n e a f g c l phi left middle) = ⊤
 
 -- the claims of all records are
 abbrev pub AreJudged : List Record → Type 0

@@ -26,7 +26,7 @@ claim_bytes (Ext n a b rows c) = 1312512
 claim_bytes (Local m c ideal power residue) = 4200448
 claim_bytes (Decomposition a s f g parts) = 0
 claim_bytes (Translate which n a c rows) = 267264
-claim_bytes (AlmostSplit n e a f g c l phi left middle) = 0
+claim_bytes (AlmostSplit n e a f g c l phi left middle) = 400896
 
 abbrev pub claim_numbers : Claim → ℕ
 claim_numbers (Basis words steps rules) = 0
@@ -41,7 +41,7 @@ claim_numbers (Ext n a b rows c) = 1025
 claim_numbers (Local m c ideal power residue) = 4608
 claim_numbers (Decomposition a s f g parts) = 32
 claim_numbers (Translate which n a c rows) = 512
-claim_numbers (AlmostSplit n e a f g c l phi left middle) = 0
+claim_numbers (AlmostSplit n e a f g c l phi left middle) = 512
 
 -- enough for objects; for a claim
 pub record HasObjectRoom (bytes numbers : List ℕ) : Type 0 where

@@ -14,6 +14,7 @@ use crate::kinds::{
     first_failing_kernel_claim, first_failing_local_claim, first_failing_radical_claim,
 };
 use crate::objects::first_failing_object;
+use crate::sequences::first_failing_sequence_claim;
 use crate::terms::{
     first_failing_extension_claim, first_failing_resolution_claim, first_failing_translate_claim,
 };
@@ -118,7 +119,34 @@ fn first_failing_of_kind(
             bytes,
             numbers,
         ),
-        _ => unreachable!(),
+        Claim::AlmostSplit {
+            left,
+            middle,
+            right,
+            f,
+            g,
+            resolution,
+            local,
+            phi,
+            left_rows,
+            middle_rows,
+        } => first_failing_sequence_claim(
+            table,
+            report,
+            *left,
+            *middle,
+            *right,
+            *f,
+            *g,
+            *resolution,
+            *local,
+            phi,
+            left_rows,
+            middle_rows,
+            bytes,
+            numbers,
+        ),
+        Claim::Basis { .. } => unreachable!(),
     }
 }
 

@@ -23,7 +23,7 @@ use report_types::{PartClaim, Report};
 use residue_checks::first_failing_local;
 
 /// Whether the map f goes from module a to module b, by their numbers.
-fn goes(report: &Report, f: u32, a: u32, b: u32) -> bool
+pub(crate) fn goes(report: &Report, f: u32, a: u32, b: u32) -> bool
     requires { NamesMap report.now.records f }
     ensures { MatchBool result (Goes report.now.records f a b) (¬ Goes report.now.records f a b) }
 {
@@ -162,7 +162,7 @@ pub(crate) fn first_failing_radical_claim(
 }
 
 /// Whether both numbers are that of module m.
-fn are_of(a: u32, b: u32, m: u32) -> bool
+pub(crate) fn are_of(a: u32, b: u32, m: u32) -> bool
     ensures { MatchBool result ((a ≡ m) × (b ≡ m)) (¬ ((a ≡ m) × (b ≡ m))) }
 {
     if a != m {

@@ -8,6 +8,7 @@ mod parts;
 mod reports;
 mod rooms;
 mod runs;
+mod sequences;
 mod terms;
 
 pub use claims::check_claim;

@@ -20,11 +20,11 @@ fn claim_bytes(claim: &Claim) -> u64
         Claim::Resolution { .. } => 1_579_008,
         Claim::Ext { .. } => 1_312_512,
         Claim::Translate { .. } => 267_264,
+        Claim::AlmostSplit { .. } => 400_896,
         Claim::Basis { .. }
         | Claim::Module { .. }
         | Claim::Map { .. }
-        | Claim::Decomposition { .. }
-        | Claim::AlmostSplit { .. } => 0,
+        | Claim::Decomposition { .. } => 0,
     }
 }
 
@@ -40,11 +40,8 @@ fn claim_numbers(claim: &Claim) -> u64
         Claim::Decomposition { .. } => 32,
         Claim::Resolution { .. } => 1537,
         Claim::Ext { .. } => 1025,
-        Claim::Translate { .. } => 512,
-        Claim::Basis { .. }
-        | Claim::Module { .. }
-        | Claim::Map { .. }
-        | Claim::AlmostSplit { .. } => 0,
+        Claim::Translate { .. } | Claim::AlmostSplit { .. } => 512,
+        Claim::Basis { .. } | Claim::Module { .. } | Claim::Map { .. } => 0,
     }
 }
 

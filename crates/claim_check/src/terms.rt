@@ -24,7 +24,7 @@ use seq::Seq;
 use translate_checks::{first_failing_tau, first_failing_taui, first_failing_transpose};
 
 /// The resolution with this number, of which the length is known: the number of its module, its length and its terms.
-fn resolution_at(report: &Report, n: u32) -> (u32, u32, &Seq<TermRows>)
+pub(crate) fn resolution_at(report: &Report, n: u32) -> (u32, u32, &Seq<TermRows>)
     requires named { NamesClaim report.now.records n }
     requires resolution { (m : ℕ) × HasLength (claim_of report.now.records n) m }
     ensures { claim_of report.now.records n ≡ claim.Resolution result.0 result.1 result.2.now }

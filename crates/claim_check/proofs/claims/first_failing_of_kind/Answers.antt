@@ -7,6 +7,7 @@ use Rattle.report_types.specs.Verdicts.{sides_by}
 use Rattle.report_types.specs.Lawful.{HasItsPlace}
 use Rattle.claim_check.proofs.ResolutionClaims.{resolution_in_whole}
 use Rattle.claim_check.proofs.TranslateClaims.{extension_in_whole, translate_in_whole}
+use Rattle.claim_check.proofs.SequenceClaims.{sequence_in_whole}
 use Rattle.claim_check.proofs.Named.{record_lawful}
 use Rattle.claim_check.proofs.ByNumbers.{hom_in_whole, kernel_in_whole, radical_in_whole}
 use Rattle.claim_check.proofs.DecompositionClaims.{decomposition_in_whole}
@@ -112,3 +113,16 @@ pub returns-in-Translate : goal.returns-in-Translate
 returns-in-Translate c w =
     subst (λ x. IsAnswer (claim_conditions c.args.report.now.header (sides_by w) c.args.report.now.records x) c.first_failing_translate_claim.result) (sym c.in-Translate.is)
     (c.first_failing_translate_claim.ensures w)
+
+pub first_failing_sequence_claim-requires-clause-block : goal.first_failing_sequence_claim-requires-clause-block
+first_failing_sequence_claim-requires-clause-block c =
+    let lawful = record_lawful c.args.report.now c.requires.report c.args.k c.args.item.now c.requires.there in
+    sequence_in_whole c.args.report.now c.requires.report c.args.k (subst (HasItsPlace (take c.args.k c.args.report.now.records) c.args.item.now) c.in-AlmostSplit.is lawful.place)
+    c.in-AlmostSplit.left c.in-AlmostSplit.middle c.in-AlmostSplit.right c.in-AlmostSplit.f c.in-AlmostSplit.g c.in-AlmostSplit.resolution c.in-AlmostSplit.local c.in-AlmostSplit.phi
+    c.in-AlmostSplit.left_rows c.in-AlmostSplit.middle_rows
+    (subst (IsClaimBlock c.args.report.now.header (take c.args.k c.args.report.now.records)) c.in-AlmostSplit.is lawful.claim)
+
+pub returns-in-AlmostSplit : goal.returns-in-AlmostSplit
+returns-in-AlmostSplit c w =
+    subst (λ x. IsAnswer (claim_conditions c.args.report.now.header (sides_by w) c.args.report.now.records x) c.first_failing_sequence_claim.result) (sym c.in-AlmostSplit.is)
+    (c.first_failing_sequence_claim.ensures w)
