@@ -3,7 +3,7 @@ use Rattle.std.proofs.Common.{arith, ℕ, ◌≡◌, ◌≤◌, ◌⊎◌, List,
 use Rattle.std.specs.declared.option.Option.{Option}
 use Rattle.top_call.specs.declared.modes.Mode.{Mode}
 use Rattle.top_call.specs.declared.modes.Wanted.{Wanted}
-use Rattle.top_call.specs.Modes.{AsksWith, NameBoth}
+use Rattle.top_call.specs.Modes.{AsksWith, AsksFor, NameBoth}
 use Rattle.top_call.specs.Wanted.{IsWanted}
 
 -- the number of workers stands behind the name of the mode, or before it
@@ -31,3 +31,10 @@ three_words f (_ ∷ _ ∷ _ ∷ _ ∷ _) x y z a b c l p q r s t u = absurd (om
 pub same_words : (words others : List (List ℕ)) → others ≡ words → (found : Option Wanted)
     → MatchOption found ((mode : Mode) (k : ℕ) → AsksWith others mode k → ⊥) (λ w. IsWanted others w) → MatchOption found ((mode : Mode) (k : ℕ) → AsksWith words mode k → ⊥) (λ w. IsWanted words w)
 same_words words others same found = subst (λ (v : List (List ℕ)). MatchOption found ((mode : Mode) (k : ℕ) → AsksWith v mode k → ⊥) (λ w. IsWanted v w)) same
+
+-- what is wanted is asked for
+pub asks_for : (words : List (List ℕ)) (w : Wanted) → IsWanted words w → AsksFor words w.mode
+asks_for words w is = record { workers = w.workers; asks = is.asks }
+
+pub asks_something : (words : List (List ℕ)) (w : Wanted) → IsWanted words w → ((mode : Mode) → AsksFor words mode → ⊥) → ⊥
+asks_something words w is none = none w.mode (asks_for words w is)
