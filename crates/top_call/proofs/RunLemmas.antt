@@ -39,7 +39,7 @@ same_kinds (claim.Ext n a b rows c) j = tt
 same_kinds (claim.Local m c ideal power residue) j = tt
 same_kinds (claim.Decomposition a s f g parts) j = tt
 same_kinds (claim.Translate which n a c rows) j = tt
-same_kinds (claim.AlmostSplit n e a f g c l phi left middle) j = absurd j
+same_kinds (claim.AlmostSplit n e a f g c l phi left middle) j = tt
 
 pub checked_kinds : (records : List Record) → All (λ (r : Record). IsJudged r.claim) records → AreJudged records
 checked_kinds records all = All-weaker (λ (r : Record). IsJudged r.claim) (λ (r : Record). IsChecked r.claim) (λ r j. same_kinds r.claim j) records all
