@@ -20,7 +20,6 @@ use Rattle.report_types.specs.Numbers.{module_of, map_of, printed}
 use Rattle.report_types.specs.ClaimBlocks.{IsKernelBlock, IsRadicalBlock, IsClaimBlock}
 use Rattle.report_types.specs.Conditions.{Goes, claim_conditions, before_claim}
 use Rattle.report_types.specs.Lawful.{IsMapBlock, HasItsPlace, IsReport}
-use Rattle.claim_check.specs.Judged.{IsJudged}
 use Rattle.claim_check.proofs.Named.{map_at_front}
 use Rattle.claim_check.proofs.WhatNumbersSay.{behind_first, named_swap, goes_over}
 use Rattle.claim_check.proofs.ByNumbers.{whole_module, whole_map, hom_at_front}
@@ -86,22 +85,22 @@ module _ (report : Report) (is : IsReport report) (k : ℕ) where
       subst (λ (m : Map). IsAnswer (radical_conditions G h (module_of front n) (module_of front a) m.matrices) r) ei y3
 
   module _ (T : Sides report.header) where
-    pub kind_at_front : (c : Claim) (r : Option Clause) → IsJudged c → IsClaimBlock h front c → IsAnswer (claim_conditions h T rs c) r → IsAnswer (claim_conditions h T front c) r
-    kind_at_front (claim.Basis words steps rules) r j x y = y
-    kind_at_front (claim.Module m) r j x y = y
-    kind_at_front (claim.Map f) r j x y = y
-    kind_at_front (claim.Hom a b rows) r j x y = hom_at_front h k rs a b rows r x y
-    kind_at_front (claim.Kernel n f i) r j x y = kernel_at_front n f i r x y
-    kind_at_front (claim.Cokernel n f i) r j x y = cokernel_at_front n f i r x y
-    kind_at_front (claim.Radical n a i) r j x y = radical_at_front n a i r x y
-    kind_at_front (claim.Resolution a n terms) r j x y = resolution_at_front h T k rs a n terms r x y
-    kind_at_front (claim.Ext n a b rows c) r j x y = extension_at_front h T k rs r n a b rows c x y
-    kind_at_front (claim.Local m c ideal power residue) r j x y = local_at_front h k rs m c ideal power x residue r y
-    kind_at_front (claim.Decomposition a s f g parts) r j x y = decomposition_at_front h k rs a s f g parts x r y
-    kind_at_front (claim.Translate Tau n a c rows) r j x y = tau_at_front h T k rs r n a c rows x y
-    kind_at_front (claim.Translate Transpose n a c rows) r j x y = transpose_at_front h T k rs r n a c rows x y
-    kind_at_front (claim.Translate (Taui b) n a c rows) r j x y = taui_at_front h T k rs r n a b c rows x y
-    kind_at_front (claim.AlmostSplit n e a f g c l phi left middle) r j x y =
+    pub kind_at_front : (c : Claim) (r : Option Clause) → IsClaimBlock h front c → IsAnswer (claim_conditions h T rs c) r → IsAnswer (claim_conditions h T front c) r
+    kind_at_front (claim.Basis words steps rules) r x y = y
+    kind_at_front (claim.Module m) r x y = y
+    kind_at_front (claim.Map f) r x y = y
+    kind_at_front (claim.Hom a b rows) r x y = hom_at_front h k rs a b rows r x y
+    kind_at_front (claim.Kernel n f i) r x y = kernel_at_front n f i r x y
+    kind_at_front (claim.Cokernel n f i) r x y = cokernel_at_front n f i r x y
+    kind_at_front (claim.Radical n a i) r x y = radical_at_front n a i r x y
+    kind_at_front (claim.Resolution a n terms) r x y = resolution_at_front h T k rs a n terms r x y
+    kind_at_front (claim.Ext n a b rows c) r x y = extension_at_front h T k rs r n a b rows c x y
+    kind_at_front (claim.Local m c ideal power residue) r x y = local_at_front h k rs m c ideal power x residue r y
+    kind_at_front (claim.Decomposition a s f g parts) r x y = decomposition_at_front h k rs a s f g parts x r y
+    kind_at_front (claim.Translate Tau n a c rows) r x y = tau_at_front h T k rs r n a c rows x y
+    kind_at_front (claim.Translate Transpose n a c rows) r x y = transpose_at_front h T k rs r n a c rows x y
+    kind_at_front (claim.Translate (Taui b) n a c rows) r x y = taui_at_front h T k rs r n a b c rows x y
+    kind_at_front (claim.AlmostSplit n e a f g c l phi left middle) r x y =
         sequence_at_front report is k n e a f g c l phi left middle x T record { functional = phi; left = left; middle = middle } r y
 
     -- ---- the objects of the record before the claim

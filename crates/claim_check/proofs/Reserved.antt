@@ -6,7 +6,6 @@ use Rattle.std.specs.Prelude.{replicate, All, slice_get}
 use Rattle.report_types.specs.declared.claims.Claim.{Claim}
 use Rattle.report_types.specs.declared.claims.Record.{Record}
 use Rattle.report_types.specs.Numbers.{record_of}
-use Rattle.claim_check.specs.Judged.{IsJudged, AreJudged}
 use Rattle.claim_check.specs.Room.{object_bytes, object_numbers, claim_bytes, claim_numbers, HasClaimRoom, HasRoom}
 
 long : (n : ℕ) (xs : List ℕ) → xs ≡ replicate n 0 → length xs ≡ n
@@ -43,10 +42,3 @@ room_of_claim rs zero r bytes numbers e h = absurd (none_some r e)
     none_some : (r : Record) → None ≡ Some r → ⊥
     none_some r same = cc
 room_of_claim rs (suc i) r bytes numbers e h = item_of_all (λ (x : Record). HasClaimRoom x.claim bytes numbers) rs i r e h.claims
-
-pub judged_at : (rs : List Record) (k : ℕ) (r : Record) → record_of rs k ≡ Some r → AreJudged rs → IsJudged r.claim
-judged_at rs zero r e a = absurd (none_some r e)
-  where
-    none_some : (r : Record) → None ≡ Some r → ⊥
-    none_some r same = cc
-judged_at rs (suc i) r e a = item_of_all (λ (x : Record). IsJudged x.claim) rs i r e a

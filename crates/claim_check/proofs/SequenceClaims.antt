@@ -1,6 +1,6 @@
 -- Almost split sequences: what the format asks of them and of the certificate that they name, over the whole report; the answer on them, and that over the
 -- records up to the claim.
-use Rattle.std.proofs.Common.{ℕ, ◌≡◌, ◌≤◌, ◌<◌, ◌+◌, ◌^◌, List, length, Some, refl, sym, ap, ◌∙◌, subst, arith}
+use Rattle.std.proofs.Common.{ℕ, ◌≡◌, ◌≤◌, ◌<◌, ◌+◌, List, length, refl, sym, ap, ◌∙◌, subst, arith}
 use Rattle.std.specs.Prelude.{⊤, Option, take}
 use Rattle.std.proofs.lemmas.List.{take-take}
 use Rattle.fp_linear.specs.Matrix.{PlainMatrix}
@@ -10,7 +10,7 @@ use Rattle.quiver_paths.specs.Quiver.{vertex_count}
 use Rattle.path_algebra.specs.declared.Header.{Header}
 use Rattle.projectives.specs.CanonicalCover.{vertex_in}
 use Rattle.bound_algebra.specs.TypedPaths.{quiver_of}
-use Rattle.alg_table.specs.TableView.{TableView, IsTable}
+use Rattle.alg_table.specs.TableView.{TableView}
 use Rattle.module_types.specs.declared.Module.{Module}
 use Rattle.module_types.specs.declared.Map.{Map}
 use Rattle.module_types.specs.declared.TermRows.{TermRows}
@@ -32,19 +32,19 @@ use Rattle.report_types.specs.declared.claims.Claim.TheVariants as claim
 use Rattle.report_types.specs.declared.claims.Record.{Record}
 use Rattle.report_types.specs.declared.reports.Report.{Report}
 use Rattle.report_types.specs.Limits.{unknown_limit}
-use Rattle.report_types.specs.Numbers.{module_of, map_of, claim_in, claim_of, NamesModule, NamesMap, NamesClaim}
-use Rattle.report_types.specs.NamedClaims.{IsHomClaim, IsHomOf, rows_in, IsResolutionOf, terms_in, IsLocalClaim, IsLocalOf, hom_in, ideal_in}
+use Rattle.report_types.specs.Numbers.{module_of, map_of, claim_in, claim_of, NamesModule, NamesClaim}
+use Rattle.report_types.specs.NamedClaims.{IsHomOf, rows_in, IsResolutionOf, terms_in, IsLocalClaim, IsLocalOf, hom_in, ideal_in}
 use Rattle.report_types.specs.ClaimBlocks.{IsClaimBlock, IsLocalBlock, IsResolutionBlock, NamesResolution, IsSequenceBlock, AtVertices, dual_dim}
 use Rattle.report_types.specs.WordDimensions.{dim_of, count_at}
-use Rattle.report_types.specs.Conditions.{Goes, NameSequence}
-use Rattle.report_types.specs.Lawful.{IsMapBlock, IsReport}
+use Rattle.report_types.specs.Conditions.{NameSequence}
+use Rattle.report_types.specs.Lawful.{IsReport}
 use Rattle.report_types.proofs.Fronts.{record_there, named_below, module_in_whole, claim_in_whole}
 use Rattle.claim_check.specs.ClaimVerdicts.{IsTableOf}
 use Rattle.claim_check.specs.Room.{HasClaimRoom}
 use Rattle.claim_check.proofs.Named.{names_module, names_claim, record_lawful}
 use Rattle.claim_check.proofs.WhatNumbersSay.{behind_first, named_swap, goes_over}
 use Rattle.claim_check.proofs.ByNumbers.{whole_module, whole_map, whole_claim, both_in_whole}
-use Rattle.claim_check.proofs.LocalClaims.{hom_named, few_rows, few_unknowns, rows_of_families, ideal_columns, local_in_whole}
+use Rattle.claim_check.proofs.LocalClaims.{local_in_whole}
 use Rattle.claim_check.proofs.TranslateClaims.{dual_in_whole, presentation_in_whole, dual_is, matrices_by}
 
 -- a claim on a local module has a form of its own
@@ -158,7 +158,6 @@ by_objects h T N fm fn gm gn nm nn em en am an r terms basis ideal s ef eg e1 e2
     (subst (λ d. IsAnswer (sequence_conditions N h T nn en d fm.matrices gm.matrices terms basis ideal s) r) e3
     (subst (λ d. IsAnswer (sequence_conditions N h T nn d am fm.matrices gm.matrices terms basis ideal s) r) e2
     (subst (λ d. IsAnswer (sequence_conditions N h T d em am fm.matrices gm.matrices terms basis ideal s) r) e1 v))))
-
 
 module _ (h : Header) (T : Sides h) (rs : List Record) (n e a f g c l : ℕ) (s : SequenceRows) where
   abbrev Sides_are : Type 0

@@ -1,6 +1,6 @@
 -- Claims over a named resolution: extensions, translates and transposes. What the format asks of them, over the whole report; the answers on them, and those
 -- over the records up to the claim.
-use Rattle.std.proofs.Common.{ℕ, suc, ◌≡◌, ◌≤◌, ◌<◌, List, length, Some, refl, sym, ap, ◌∙◌, subst, arith}
+use Rattle.std.proofs.Common.{ℕ, suc, ◌≡◌, ◌≤◌, ◌<◌, List, length, refl, sym, ap, ◌∙◌, subst, arith}
 use Rattle.std.specs.Prelude.{⊤, Option, take, slice_index_or}
 use Rattle.std.proofs.lemmas.List.{take-take}
 use Rattle.fp_linear.specs.Matrix.{PlainMatrix}
@@ -222,23 +222,6 @@ module _ (h : Header) (T : Sides h) (rs : List Record) (c x m : ℕ) (terms : Li
       (⊤ × IsDualOf h (module_of rs a) (module_of rs b) × ((module_of rs n).side ≡ (module_of rs a).side))
       ((x ≡ b) × IsDualOf h (module_of rs a) (module_of rs b) × ((module_of rs n).side ≡ (module_of rs a).side)) r (λ p. (same, p.1, p.2)) (λ p. (tt, p.1, p.2)) y3 in
       subst (λ z. IsAnswer (taui_conditions (IsResolutionOf z b) h T (module_of rs n) (module_of rs a) (module_of rs b) (terms_in z) rows) r) (sym e) y4
-
-  -- the terms are those of another module
-  pub other_in_extension : (n a b : ℕ) (rows : PlainMatrix) → ¬ (x ≡ a)
-      → IsAnswer (extension_conditions (IsResolutionOf (claim_of rs c) a) h T (module_of rs a) (module_of rs b) (terms_in (claim_of rs c)) n rows) (Some clause.Objects)
-  other_in_extension n a b rows f = (0, (refl, λ p. f (subst (λ z. IsResolutionOf z a) e p.0)))
-
-  pub other_in_tau : (n a : ℕ) (rows : List PlainMatrix) → ¬ (x ≡ a)
-      → IsAnswer (tau_conditions (IsResolutionOf (claim_of rs c) a) h T (module_of rs n) (module_of rs a) (terms_in (claim_of rs c)) rows) (Some clause.Objects)
-  other_in_tau n a rows f = (0, (refl, λ p. f (subst (λ z. IsResolutionOf z a) e p.0)))
-
-  pub other_in_transpose : (n a : ℕ) (rows : List PlainMatrix) → ¬ (x ≡ a)
-      → IsAnswer (transpose_conditions (IsResolutionOf (claim_of rs c) a) h T (module_of rs n) (module_of rs a) (terms_in (claim_of rs c)) rows) (Some clause.Objects)
-  other_in_transpose n a rows f = (0, (refl, λ p. f (subst (λ z. IsResolutionOf z a) e p.0)))
-
-  pub other_in_taui : (n a b : ℕ) (rows : List PlainMatrix) → ¬ (x ≡ b)
-      → IsAnswer (taui_conditions (IsResolutionOf (claim_of rs c) b) h T (module_of rs n) (module_of rs a) (module_of rs b) (terms_in (claim_of rs c)) rows) (Some clause.Objects)
-  other_in_taui n a b rows f = (0, (refl, λ p. f (subst (λ z. IsResolutionOf z b) e p.0)))
 
 -- ---- what the deciders ask
 

@@ -11,7 +11,6 @@ use Rattle.report_types.specs.Numbers.{record_of, printed}
 use Rattle.report_types.specs.Conditions.{claim_conditions, conditions, conditions_of}
 use Rattle.report_types.specs.Lawful.{IsReport}
 use Rattle.report_types.proofs.Fronts.{get_below}
-use Rattle.claim_check.specs.Judged.{IsJudged}
 use Rattle.claim_check.proofs.Named.{record_lawful}
 use Rattle.claim_check.proofs.AtFronts.{kind_at_front, objects_fail, objects_hold, objects_at_front}
 
@@ -31,10 +30,10 @@ module _ (report : Report) (is : IsReport report) (k : ℕ) (item : Record) (the
       subst (λ o. IsAnswer (conditions report.header T (take k report.records) o) (Some w)) (sym there)
       (objects_fail report is k T item item.claim w (front_long report.records k item there behind) lawful.place (objects_at_front report is k item (Some w) lawful.maps a))
 
-  pub found_in_claim : IsJudged item.claim → (T : Sides report.header) (r : Option Clause) → IsAnswer (object_conditions report.header item.modules (map (printed report.records) item.maps)) None
+  pub found_in_claim : (T : Sides report.header) (r : Option Clause) → IsAnswer (object_conditions report.header item.modules (map (printed report.records) item.maps)) None
       → IsAnswer (claim_conditions report.header T report.records item.claim) r → IsAnswer (conditions_of report T k) r
-  found_in_claim j T r a b =
+  found_in_claim T r a b =
       let lawful = record_lawful report is k item there in
       subst (λ o. IsAnswer (conditions report.header T (take k report.records) o) r) (sym there)
       (objects_hold report is k T item item.claim r (front_long report.records k item there behind) lawful.place (objects_at_front report is k item None lawful.maps a)
-      (kind_at_front report is k T item.claim r j lawful.claim b))
+      (kind_at_front report is k T item.claim r lawful.claim b))

@@ -6,7 +6,6 @@ ghost use Rattle.report_types.specs.Conditions.{claim_conditions, conditions_of}
 ghost use Rattle.report_types.specs.Lawful.{IsReport};
 ghost use Rattle.report_types.specs.Verdicts.{NormalWords, sides_by};
 ghost use Rattle.claim_check.specs.ClaimVerdicts.{IsClaimNumber, IsClaimVerdict, IsTableOf};
-ghost use Rattle.claim_check.specs.Judged.{IsJudged, AreJudged};
 ghost use Rattle.claim_check.specs.Room.{HasObjectRoom, HasClaimRoom, HasRoom};
 
 use crate::kinds::{
@@ -34,7 +33,6 @@ fn first_failing_of_kind(
 ) -> Option<Clause>
     requires report { IsReport report.now }
     requires there { record_of report.now.records k ≡ Some item.now }
-    requires judged { IsJudged item.now.claim }
     requires table { IsTableOf report.now table.now }
     requires behind { 2 ≤ k }
     requires room { HasClaimRoom item.now.claim bytes.old numbers.old }
@@ -161,7 +159,6 @@ fn first_failing(
 ) -> Option<Clause>
     requires report { IsReport report.now }
     requires there { record_of report.now.records k ≡ Some item.now }
-    requires judged { IsJudged item.now.claim }
     requires table { IsTableOf report.now table.now }
     requires behind { 2 ≤ k }
     requires objects { HasObjectRoom bytes.old numbers.old }
@@ -179,7 +176,6 @@ fn first_failing(
 /// `Fails` comes exactly where a condition on the claim fails, and names the first. Claim 1 holds: the table is there.
 pub fn check_claim(table: &Table, report: &Report, k: u32, scratch: &mut Scratch) -> Verdict
     requires report { IsReport report.now }
-    requires judged { AreJudged report.now.records }
     requires table { IsTableOf report.now table.now }
     requires number { IsClaimNumber report.now k }
     requires room { HasRoom report.now.records scratch.old.bytes.items scratch.old.numbers.items }

@@ -4,7 +4,6 @@ ghost use Rattle.report_types.specs.Numbers.{record_of};
 ghost use Rattle.report_types.specs.Lawful.{IsReport};
 ghost use Rattle.report_types.specs.Verdicts.{IsVerdict};
 ghost use Rattle.claim_check.specs.ClaimVerdicts.{IsLaterClaim, IsTableOf, clause_of};
-ghost use Rattle.claim_check.specs.Judged.{AreJudged};
 ghost use Rattle.claim_check.specs.Runs.{IsRun, IsRunVerdict};
 
 use crate::runs::{Run, check_run, cut, first_failure};
@@ -39,7 +38,6 @@ fn check_later<R: Threads + Sync, F: Fn(u32) + Sync>(
     gate: &F,
 ) -> Result<Verdict, AllocError>
     requires report { IsReport report.now }
-    requires judged { AreJudged report.now.records }
     requires table { IsTableOf report.now table.now }
     requires some { 0 < length report.now.records }
     requires workers { (1 ≤ workers) × (workers ≤ 16) }
@@ -53,7 +51,7 @@ fn check_later<R: Threads + Sync, F: Fn(u32) + Sync>(
         runs,
         workers,
         &|mut run: Run| -> Verdict
-            requires { IsReport report.now × AreJudged report.now.records × IsTableOf report.now table.now × ((k : ℕ) → IsLaterClaim report.now k → F.pre gate.now k) × IsRun report.now run }
+            requires { IsReport report.now × IsTableOf report.now table.now × ((k : ℕ) → IsLaterClaim report.now k → F.pre gate.now k) × IsRun report.now run }
             ensures { IsRunVerdict report.entry.now run.behind run.last result }
         { check_run(table, report, run.behind, run.last, &mut run.scratch, gate) },
     )?;
@@ -80,7 +78,6 @@ fn check_claims<R: Threads + Sync, F: Fn(u32) + Sync>(
     gate: &F,
 ) -> Result<Verdict, AllocError>
     requires report { IsReport report.now }
-    requires judged { AreJudged report.now.records }
     requires some { 0 < length report.now.records }
     requires workers { (1 ≤ workers) × (workers ≤ 16) }
     requires gate { (k : ℕ) → IsLaterClaim report.now k → F.pre gate.now k }
@@ -114,7 +111,7 @@ fn check_claims<R: Threads + Sync, F: Fn(u32) + Sync>(
     }
 }
 
-/// The verdict on a report whose claims are of kinds that are judged: all conditions hold, or the first claim of which they do not, with the first that fails.
+/// The verdict on a report: all conditions hold, or the first claim of which they do not, with the first that fails.
 /// A report without claims holds. The claims behind the first are cut into runs, at most as many as there are workers, which are from 1 to 16; the verdict is
 /// the same for every number of them.
 pub fn check_report<R: Threads + Sync>(
@@ -124,7 +121,6 @@ pub fn check_report<R: Threads + Sync>(
     workers: u32,
 ) -> Result<Verdict, AllocError>
     requires report { IsReport report.now }
-    requires judged { AreJudged report.now.records }
     requires workers { (1 ≤ workers) × (workers ≤ 16) }
     ensures { IfOk result (IsVerdict report.now) }
 {
@@ -141,7 +137,6 @@ pub fn check_gated<R: Threads + Sync, F: Fn(u32) + Sync>(
     gate: &F,
 ) -> Result<Verdict, AllocError>
     requires report { IsReport report.now }
-    requires judged { AreJudged report.now.records }
     requires workers { (1 ≤ workers) × (workers ≤ 16) }
     requires gate { (k : ℕ) → IsLaterClaim report.now k → F.pre gate.now k }
     ensures { IfOk result (IsVerdict report.now) }

@@ -3,7 +3,6 @@ ghost use Rattle.std.specs.Prelude.{ℕ, ◌≡◌, ◌<◌, length, IfOk};
 ghost use Rattle.report_types.specs.Lawful.{IsReport};
 ghost use Rattle.claim_check.specs.ClaimVerdicts.{IsLaterClaim, IsTableOf};
 ghost use Rattle.claim_check.specs.Room.{HasRoom};
-ghost use Rattle.claim_check.specs.Judged.{AreJudged};
 ghost use Rattle.claim_check.specs.Runs.{AreClaims, AreRuns, IsRunVerdict, first_failure};
 
 use crate::claims::check_claim;
@@ -79,7 +78,6 @@ pub(crate) fn check_run<F: Fn(u32)>(
     gate: &F,
 ) -> Verdict
     requires report { IsReport report.now }
-    requires judged { AreJudged report.now.records }
     requires table { IsTableOf report.now table.now }
     requires gate { (k : ℕ) → IsLaterClaim report.now k → F.pre gate.now k }
     requires claims { AreClaims report.now behind last }

@@ -43,16 +43,7 @@ fn local_at(report: &Report, n: u32) -> (u32, u32, &Matrix)
 }
 
 /// Whether the numbers of a sequence say that the resolution and the certificate are those of its right end, and that the maps go along it.
-fn names_sequence(
-    report: &Report,
-    n: u32,
-    e: u32,
-    a: u32,
-    f: u32,
-    g: u32,
-    c: u32,
-    l: u32,
-) -> bool
+fn names_sequence(report: &Report, n: u32, e: u32, a: u32, f: u32, g: u32, c: u32, l: u32) -> bool
     requires report { IsReport report.now }
     requires first { NamesMap report.now.records f }
     requires second { NamesMap report.now.records g }

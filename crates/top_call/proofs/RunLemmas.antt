@@ -2,7 +2,7 @@
 use Rattle.std.proofs.Common.{ℕ, ◌≡◌, ◌≤◌, ◌⊎◌, List, [], ◌∷◌, ◌++◌, length, Some, None, inl, inr, refl, sym, ap, ◌∙◌, subst, append-nil}
 use Rattle.std.specs.Prelude.{⊤, All}
 use Rattle.std.specs.declared.option.Option.{Option}
-use Rattle.std.proofs.lemmas.List.Elements.{All-nil, All-cons, All-weaker}
+use Rattle.std.proofs.lemmas.List.Elements.{All-nil, All-cons}
 use Rattle.script_types.specs.declared.Script.{Script}
 use Rattle.script_types.specs.declared.StatementKind.{StatementKind}
 use Rattle.script_types.specs.declared.StatementKind.TheVariants.{Rep, Std, Sum, Map, Kernel, Cokernel, Radical, Dual, Hom, Resolve, Ext, Decompose, Transpose, Tau, Taui, Ars}
@@ -20,29 +20,7 @@ use Rattle.script_answers.specs.Refusals.{refusal}
 use Rattle.script_answers.specs.Answers.{Stage, setting_at, Makes, begun, next, AnswersScript, IsWhole, ClaimsBasis, EndsAtBasis}
 use Rattle.script_answers.proofs.Fronts.{fronts_begin}
 use Rattle.claim_text.specs.Judged.{IsJudged}
-use Rattle.claim_check.specs.Judged.{IsJudged as IsChecked, AreJudged}
 use Rattle.script_run.specs.Runs.{IsRightReport, IsRightBeginning}
-
--- ---- kinds of claims
-
--- what is judged in a text is judged by the check
-same_kinds : (c : Claim) → IsJudged c → IsChecked c
-same_kinds (claim.Basis words steps rules) j = tt
-same_kinds (claim.Module m) j = tt
-same_kinds (claim.Map f) j = tt
-same_kinds (claim.Hom a b rows) j = tt
-same_kinds (claim.Kernel n f i) j = tt
-same_kinds (claim.Cokernel n f p) j = tt
-same_kinds (claim.Radical n a i) j = tt
-same_kinds (claim.Resolution a n terms) j = tt
-same_kinds (claim.Ext n a b rows c) j = tt
-same_kinds (claim.Local m c ideal power residue) j = tt
-same_kinds (claim.Decomposition a s f g parts) j = tt
-same_kinds (claim.Translate which n a c rows) j = tt
-same_kinds (claim.AlmostSplit n e a f g c l phi left middle) j = tt
-
-pub checked_kinds : (records : List Record) → All (λ (r : Record). IsJudged r.claim) records → AreJudged records
-checked_kinds records all = All-weaker (λ (r : Record). IsJudged r.claim) (λ (r : Record). IsChecked r.claim) (λ r j. same_kinds r.claim j) records all
 
 -- no statement is built, so each claim that answers a script is that of its basis
 none_built : (at : Setting) (kind : StatementKind) → refusal at kind ≡ Some NotBuilt

@@ -1,10 +1,7 @@
 use Rattle.std.proofs.Common.{sym, subst}
 use Rattle.claim_check.specs.Room.{HasRoom}
-use Rattle.claim_check.proofs.Reserved.{judged_at, room_of_claim}
+use Rattle.claim_check.proofs.Reserved.{room_of_claim}
 use Rattle.claim_check.proofs.claims.check_claim.Goals as goal
-
-pub first_failing-requires-clause-judged : goal.first_failing-requires-clause-judged
-first_failing-requires-clause-judged c = judged_at c.args.report.now.records c.args.k c.in-Some.item.now c.in-Some.ensures.1 c.requires.judged
 
 pub first_failing-requires-clause-room : goal.first_failing-requires-clause-room
 first_failing-requires-clause-room c =

@@ -16,6 +16,6 @@ returns-in-Some c w = found_in_objects c.args.report.now c.requires.report c.arg
 
 pub returns : goal.returns
 returns c w =
-    found_in_claim c.args.report.now c.requires.report c.args.k c.args.item.now c.requires.there c.requires.behind c.requires.judged (sides_by w) c.first_failing_of_kind.result
+    found_in_claim c.args.report.now c.requires.report c.args.k c.args.item.now c.requires.there c.requires.behind (sides_by w) c.first_failing_of_kind.result
     (subst (IsAnswer (object_conditions c.args.report.now.header c.args.item.now.modules (map (printed c.args.report.now.records) c.args.item.now.maps))) c.in_default.is c.first_failing_object.ensures)
     (c.first_failing_of_kind.ensures w)

@@ -5,7 +5,6 @@ use Rattle.claim_check.proofs.reports.check_later.Goals as goal
 pub map_in_order-requires-clause-accepts : goal.map_in_order-requires-clause-accepts
 map_in_order-requires-clause-accepts g c κs within = λ k d l. (
   c.requires.report,
-  c.requires.judged,
   c.requires.table,
   c.requires.gate,
   all_runs c.args.report.now 1 (length c.args.report.now.records) c.in_ok-runs.runs.items c.in_ok-runs.ensures k d l,
