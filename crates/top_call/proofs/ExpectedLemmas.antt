@@ -9,7 +9,6 @@ use Rattle.report_types.specs.declared.reports.Report.{Report}
 use Rattle.report_types.specs.declared.reports.Why.{Why}
 use Rattle.report_types.specs.Verdicts.{ConditionsHold}
 use Rattle.claim_conditions.specs.declared.Clause.{Clause}
-use Rattle.report_types.specs.declared.verdicts.Verdict.{Verdict}
 use Rattle.report_types.specs.declared.verdicts.Verdict.TheVariants as verdict
 use Rattle.report_types.specs.declared.reports.End.TheVariants as end
 use Rattle.script_answers.specs.Answers.{HasFewPaths}
@@ -20,7 +19,7 @@ use Rattle.script_types.specs.declared.Script.{Script}
 use Rattle.script_lang.specs.Scripts.{IsScript}
 use Rattle.script_lang.proofs.ScriptLaws.{one_script, script_not_bad}
 use Rattle.script_run.specs.Runs.{IsRightReport}
-use Rattle.top_call.proofs.RunLemmas.{right_judged}
+use Rattle.top_call.proofs.RunLemmas.{all_judged}
 use Rattle.top_call.specs.declared.outcome.Outcome.{Outcome}
 use Rattle.top_call.specs.declared.outcome.Outcome.TheVariants.{Done, Refused, Rejected, BadText, TooLong, Usage, ReadFault, WriteFault, NoMemory}
 use Rattle.top_call.specs.declared.modes.Mode.{Mode}
@@ -124,7 +123,7 @@ module _ (words : List (List ℕ)) (left left' taken taken' : Option (List ℕ))
 
 -- what `run` writes with Done is accepted
 pub accepted : (input text : List ℕ) → Answers Run Done input text → IsGood Check text
-accepted input text a = record { report = a.report; reads = record { report_is = a.right.lawful; judged = right_judged a.script a.report a.right.answers a.ends; spelled = a.spelled }; conditions = a.right.conditions }
+accepted input text a = record { report = a.report; reads = record { report_is = a.right.lawful; judged = all_judged a.report.records; spelled = a.spelled }; conditions = a.right.conditions }
 
 -- a script without statements, with few paths below its bound
 done_differs : (line : ℕ) (why : Why) → end.Done ≡ end.Refused line why → ⊥

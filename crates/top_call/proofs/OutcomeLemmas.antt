@@ -2,8 +2,7 @@
 use Rattle.std.proofs.Common.{◌≡◌, ℕ, ◌+◌, ◌≤◌, List, ◌⊎◌, length, inl, inr, refl, sym, ap, ◌∙◌, subst}
 use Rattle.std.specs.Prelude.{⊤}
 use Rattle.std.specs.declared.option.Option.{Option}
-use Rattle.quiv_io.specs.Counts.{Rose}
-use Rattle.quiv_io.specs.Bytes.{Takes, TakesFront}
+use Rattle.quiv_io.specs.Bytes.{Takes}
 use Rattle.quiv_io.specs.Whole.{GivesAll, GivesBefore}
 use Rattle.quiv_io.specs.declared.whole.ReadError.TheVariants.{TooLong as ReadTooLong}
 use Rattle.script_types.specs.declared.Script.{Script}
@@ -26,10 +25,10 @@ use Rattle.top_call.specs.declared.outcome.Outcome.TheVariants.{Done, Refused, R
 use Rattle.top_call.specs.declared.modes.Mode.{Mode}
 use Rattle.top_call.specs.declared.modes.Mode.TheVariants.{Run, Check}
 use Rattle.top_call.specs.Modes.{AsksFor, input_limit}
-use Rattle.top_call.specs.Texts.{holds_text, bad_text, usage_text, too_long_text}
-use Rattle.top_call.specs.Answers.{Answers, RunAnswers, CheckAnswers, Begins}
+use Rattle.top_call.specs.Texts.{holds_text, bad_text, too_long_text}
+use Rattle.top_call.specs.Answers.{Answers, CheckAnswers, Begins}
 use Rattle.top_call.specs.Outcomes.{IsText, IsBegun, IsStopped, OfOutcome, Writes, HasCause}
-use Rattle.top_call.specs.Steps.{Finishes, FrontWritten, HasSinkCause, EndsWith, Refuses, run_outcome}
+use Rattle.top_call.specs.Steps.{Finishes, HasSinkCause, EndsWith, Refuses, run_outcome}
 
 -- no answer ends so
 answers_no_fault : (mode : Mode) (input text : List ℕ) → Answers mode ReadFault input text → ⊥

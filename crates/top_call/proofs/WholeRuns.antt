@@ -1,5 +1,5 @@
 -- A run of a script, and the records that were made in it.
-use Rattle.std.proofs.Common.{◌≡◌, ℕ, ◌≤◌, List, [], ◌++◌, length, Some, inl, inr, refl, sym, ap, ◌∙◌, subst, append-nil}
+use Rattle.std.proofs.Common.{◌≡◌, ℕ, ◌≤◌, List, [], length, Some, inl, inr, refl, subst}
 use Rattle.std.specs.declared.option.Option.{Option}
 use Rattle.quiv_io.specs.Counts.{Rose}
 use Rattle.quiv_io.specs.Bytes.{Takes}
@@ -7,21 +7,18 @@ use Rattle.script_types.specs.declared.Script.{Script}
 use Rattle.script_lang.specs.Scripts.{IsScript}
 use Rattle.script_lang.proofs.ScriptLaws.{one_script, script_not_bad}
 use Rattle.script_lang.proofs.LawfulScripts.{script_lawful}
-use Rattle.report_types.specs.declared.claims.Record.{Record}
 use Rattle.report_types.specs.declared.reports.Report.{Report}
-use Rattle.report_types.specs.declared.reports.Why.{Why}
 use Rattle.report_types.specs.declared.reports.End.TheVariants as end
 use Rattle.script_answers.specs.Answers.{HasFewPaths}
 use Rattle.script_answers.proofs.Fronts.{refusal_met}
-use Rattle.script_run.specs.Runs.{IsRightReport, IsRightBeginning, begun_text}
+use Rattle.script_run.specs.Runs.{IsRightReport, IsRightBeginning}
 use Rattle.script_run.proofs.RightReports.{right_empty}
 use Rattle.top_call.specs.declared.outcome.Outcome.{Outcome}
 use Rattle.top_call.specs.declared.outcome.Outcome.TheVariants.{Done, Refused, Rejected, BadText, TooLong, Usage, ReadFault, WriteFault, NoMemory}
-use Rattle.top_call.specs.declared.modes.Mode.{Mode}
-use Rattle.top_call.specs.declared.modes.Mode.TheVariants.{Run, Check}
+use Rattle.top_call.specs.declared.modes.Mode.TheVariants.{Run}
 use Rattle.top_call.specs.Modes.{AsksFor, input_limit}
 use Rattle.top_call.specs.Answers.{RunAnswers, Begins, BeginsReport}
-use Rattle.top_call.specs.Outcomes.{IsText, IsBegun, IsStopped, IsAnswered, IsTooLong, Writes, HasCause}
+use Rattle.top_call.specs.Outcomes.{IsText, IsBegun, IsStopped, IsAnswered, Writes, HasCause}
 use Rattle.top_call.specs.Expected.{RunsWhole}
 use Rattle.top_call.proofs.RunLemmas.{as_beginning}
 use Rattle.top_call.proofs.ExpectedLemmas.{one_mode, read_all_of, answer_to, not_longer}

@@ -1,5 +1,5 @@
 -- What words ask for.
-use Rattle.std.proofs.Common.{arith, ℕ, ◌≡◌, ◌≤◌, ◌⊎◌, List, [], ◌∷◌, length, get_or, map, MatchOption, Some, None, inl, inr, refl, sym, ap, ◌∙◌, subst}
+use Rattle.std.proofs.Common.{arith, ℕ, ◌≡◌, List, [], ◌∷◌, length, get_or, map, MatchOption, inl, inr, ap, ◌∙◌, subst}
 use Rattle.std.specs.declared.option.Option.{Option}
 use Rattle.top_call.specs.declared.modes.Mode.{Mode}
 use Rattle.top_call.specs.declared.modes.Wanted.{Wanted}

@@ -1,5 +1,4 @@
-use Rattle.std.proofs.Common.{◌≡◌, ℕ, refl, sym, ap, ◌∙◌, subst}
-use Rattle.report_types.specs.declared.verdicts.Verdict.TheVariants as verdict
+use Rattle.std.proofs.Common.{ap, ◌∙◌, subst}
 use Rattle.report_types.specs.Verdicts.{IsVerdict}
 use Rattle.top_call.specs.Texts.{holds_text}
 use Rattle.top_call.proofs.OutcomeLemmas.{accepts}

@@ -1,4 +1,4 @@
-use Rattle.std.proofs.Common.{arith, ℕ, ◌≡◌, sym, ◌∙◌}
+use Rattle.std.proofs.Common.{arith, sym, ◌∙◌}
 use Rattle.header_text.proofs.Uniqueness.{decimal_one}
 use Rattle.top_call.proofs.modes.workers_of.Goals as goal
 

@@ -1,4 +1,4 @@
-use Rattle.std.proofs.Common.{◌≡◌, List, ℕ, map, refl, sym}
+use Rattle.std.proofs.Common.{map, refl}
 use Rattle.std.specs.Prelude.{string_bytes}
 use Rattle.top_call.specs.declared.outcome.Outcome.TheVariants.{Usage, TooLong}
 use Rattle.top_call.specs.declared.modes.Mode.TheVariants.{Run, Check}

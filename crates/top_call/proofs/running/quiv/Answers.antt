@@ -1,4 +1,4 @@
-use Rattle.std.proofs.Common.{◌≡◌, List, ℕ, map}
+use Rattle.std.proofs.Common.{map}
 use Rattle.std.specs.Prelude.{string_bytes}
 use Rattle.top_call.proofs.ExpectedLemmas.{as_expected}
 use Rattle.top_call.proofs.WholeRuns.{runs_whole}
