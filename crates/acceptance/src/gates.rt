@@ -42,14 +42,20 @@ fn two_claims_at_once(rt: HostRuntime) -> Result<(), Fail> {
     let Ok(report) = read(rt.alloc(), REPORT.as_bytes()) else {
         return Err("no report".into());
     };
-    let verdict = check_gated(&rt, rt.alloc(), &report, 2, &|claim: u32| {
-        if claim == 2 {
-            meet(&left, &right, &seen);
-        }
-        if claim == 3 {
-            meet(&right, &left, &seen);
-        }
-    })?;
+    let verdict = check_gated(
+        &rt,
+        rt.alloc(),
+        &report,
+        2,
+        &|claim: u32| {
+            if claim == 2 {
+                meet(&left, &right, &seen);
+            }
+            if claim == 3 {
+                meet(&right, &left, &seen);
+            }
+        },
+    )?;
     assert_eq!(rt; verdict, Verdict::Holds);
     assert_eq!(rt; seen.load(Ordering::SeqCst), 2);
     Ok(())

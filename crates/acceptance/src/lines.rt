@@ -7,7 +7,12 @@ use std::test::Fail;
 use std::thread::Threads;
 
 /// Whether the program names the row's line as the first bad one.
-fn is_named<R: Threads + AllocGlobal + Sync>(rt: &R, words: &str, head: &str, row: &str) -> Result<bool, Fail> {
+fn is_named<R: Threads + AllocGlobal + Sync>(
+    rt: &R,
+    words: &str,
+    head: &str,
+    row: &str,
+) -> Result<bool, Fail> {
     let alloc = rt.alloc();
     let (first, rest) = row.split_once("\n").ok_or("no text")?;
     let line = match first.split_once(" ") {

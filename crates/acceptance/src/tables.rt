@@ -129,11 +129,18 @@ pub(crate) fn holds<R: Threads + AllocGlobal + Sync>(rt: &R, row: &str) -> Resul
 }
 
 /// Whether `check` accepts the report that `run` writes to the row's script.
-pub(crate) fn is_accepted<R: Threads + AllocGlobal + Sync>(rt: &R, row: &str) -> Result<bool, Fail> {
+pub(crate) fn is_accepted<R: Threads + AllocGlobal + Sync>(
+    rt: &R,
+    row: &str,
+) -> Result<bool, Fail> {
     let (_, rest) = row.split_once("\n").ok_or("no input")?;
     let (input, _) = rest.split_once("\n< ").ok_or("no status")?;
     let report = answer(rt, "run", ended(rt.alloc(), input)?)?;
-    let verdict = answer(rt, "check", Vec::from_slice(rt.alloc(), report.text.as_slice())?)?;
+    let verdict = answer(
+        rt,
+        "check",
+        Vec::from_slice(rt.alloc(), report.text.as_slice())?,
+    )?;
     let shared = answer(rt, "check --workers 16", report.text)?;
     Ok(verdict.status == 0 && shared.status == 0)
 }
