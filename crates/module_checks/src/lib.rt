@@ -31,9 +31,9 @@ pub use long_paths::{first_place, long_paths_act_as_zero, next_images, write_uni
 pub use maps::{is_homomorphism, same_side};
 pub use meeting::all_meet;
 pub use modules::is_module;
+pub use products::products_agree;
 pub use ranks::{have_ranks, rank_of};
 pub use reduced::is_reduced;
-pub use products::products_agree;
 pub use relations::{acts_as_zero, relations_act_as_zero};
 pub use spreading::add_row;
 pub use vertex_matrices::{are_column_reduced, are_reduced};
