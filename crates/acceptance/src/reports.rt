@@ -1,6 +1,6 @@
 //! What `check` answers to reports.
 
-use crate::tables::holds;
+use crate::tables::{holds, is_written_back};
 use std::test::Fail;
 
 /// Reports and their verdicts.
@@ -444,6 +444,7 @@ fn reports() -> &'static str {
 fn reports_have_their_verdicts(rt: HostRuntime) -> Result<(), Fail> {
     for row in reports().split("\n> ").skip(1) {
         assert!(rt; holds(&rt, row)?, "{row}");
+        assert!(rt; is_written_back(&rt, row)?, "{row}");
     }
     Ok(())
 }

@@ -3,6 +3,7 @@
 //! A row begins with a line `> NAME | WORDS`. Its input follows, then a line `< STATUS`, then what is written. Each of the two texts ends with a line feed,
 //! or is written with a backslash at its end and has none. Where `...` stands in what is written, any text may stand.
 
+use claim_text::{read, write};
 use quiv_io::{MemorySink, MemorySource};
 use std::alloc::{AllocError, Global};
 use std::test::Fail;
@@ -152,4 +153,17 @@ pub(crate) fn is_accepted<R: Threads + AllocGlobal + Sync>(
     )?;
     let shared = answer(rt, "check --workers 16", report.text)?;
     Ok(verdict.status == 0 && shared.status == 0)
+}
+
+/// Whether the row's input, where it is a report, is what is written of the report that is read of it.
+pub(crate) fn is_written_back(rt: &HostRuntime, row: &str) -> Result<bool, Fail> {
+    let alloc = rt.alloc();
+    let (_, rest) = row.split_once("\n").ok_or("no input")?;
+    let (input, _) = rest.split_once("\n< ").ok_or("no status")?;
+    let input = ended(alloc, input)?;
+    let Ok(report) = read(alloc, input.as_slice()) else {
+        return Ok(true);
+    };
+    let text = write(alloc, &report)?;
+    Ok(text.as_slice() == input.as_slice())
 }

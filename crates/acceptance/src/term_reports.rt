@@ -1,6 +1,6 @@
 //! What `check` answers to reports of resolutions and extensions.
 
-use crate::tables::holds;
+use crate::tables::{holds, is_written_back};
 use std::test::Fail;
 
 const ROWS: &str = "
@@ -341,6 +341,7 @@ fn rows() -> &'static str {
 fn term_reports_have_their_verdicts(rt: HostRuntime) -> Result<(), Fail> {
     for row in rows().split("\n> ").skip(1) {
         assert!(rt; holds(&rt, row)?, "{row}");
+        assert!(rt; is_written_back(&rt, row)?, "{row}");
     }
     Ok(())
 }

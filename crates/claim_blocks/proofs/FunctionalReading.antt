@@ -52,8 +52,8 @@ module _ (spell : ℕ → List ℕ) (IsOne : ℕ → Type 0) where
         (let grows = total_grows (slice_index counts) (length counts) j inside in omega (arith, grows, is))
 
 -- entries that are all tokens are a row
-pub entries_row : (q : Gf) (n : ℕ) (old new : List ℕ) (tokens rest : List (List ℕ)) → old ≡ [] → rest ≡ [] → Takes decimal (IsElement q) n old new tokens rest → IsRow q n new × (tokens ≡ numbers_form new)
-entries_row q n old new tokens rest none done t =
-    let row = row_taken q n old new tokens rest done t in
-    let same : row.row ≡ new = sym (row.behind ∙ ap (λ l. l ++ row.row) none) in
-    (subst (IsRow q n) same row.is_row, row.spelled ∙ ap numbers_form same)
+pub entries_row : (q : Gf) (n : ℕ) (old new row : List ℕ) (tokens rest : List (List ℕ)) → old ≡ [] → rest ≡ [] → row ≡ new → Takes decimal (IsElement q) n old new tokens rest → IsRow q n row × (tokens ≡ numbers_form row)
+entries_row q n old new row tokens rest none done is t =
+    let taken = row_taken q n old new tokens rest done t in
+    let same : taken.row ≡ row = sym (is ∙ (taken.behind ∙ ap (λ l. l ++ taken.row) none)) in
+    (subst (IsRow q n) same taken.is_row, taken.spelled ∙ ap numbers_form same)

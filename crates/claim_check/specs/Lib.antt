@@ -1,4 +1,5 @@
 pub mod ClaimVerdicts
+pub mod Kinds
 pub mod NamedParts
 pub mod Room
 pub mod Runs

@@ -8,15 +8,13 @@ ghost use Rattle.report_types.specs.Verdicts.{NormalWords, sides_by};
 ghost use Rattle.claim_check.specs.ClaimVerdicts.{IsClaimNumber, IsClaimVerdict, IsTableOf};
 ghost use Rattle.claim_check.specs.Room.{HasObjectRoom, HasClaimRoom, HasRoom};
 
-use crate::kinds::{
-    first_failing_cokernel_claim, first_failing_decomposition_claim, first_failing_hom_claim,
-    first_failing_kernel_claim, first_failing_local_claim, first_failing_radical_claim,
+use crate::groups::{
+    first_failing_by_map, first_failing_of_sequence, first_failing_on_local,
+    first_failing_over_resolution,
 };
+use crate::kinds::first_failing_hom_claim;
 use crate::objects::first_failing_object;
-use crate::sequences::first_failing_sequence_claim;
-use crate::terms::{
-    first_failing_extension_claim, first_failing_resolution_claim, first_failing_translate_claim,
-};
+use crate::terms::first_failing_resolution_claim;
 use alg_table::Table;
 use claim_conditions::Clause;
 use fp_linear::Scratch;
@@ -39,112 +37,24 @@ fn first_failing_of_kind(
     ensures { (w : NormalWords report.now.header) → IsAnswer (claim_conditions report.now.header (sides_by w) report.now.records item.now.claim) result }
 {
     match &item.claim {
+        Claim::Basis { .. } => unreachable!(),
         Claim::Module { .. } | Claim::Map { .. } => None,
         Claim::Hom { a, b, rows } => first_failing_hom_claim(report, *a, *b, rows, bytes, numbers),
-        Claim::Kernel {
-            kernel,
-            f,
-            inclusion,
-        } => first_failing_kernel_claim(report, *kernel, *f, *inclusion, bytes, numbers),
-        Claim::Cokernel {
-            cokernel,
-            f,
-            projection,
-        } => first_failing_cokernel_claim(report, *cokernel, *f, *projection, bytes, numbers),
-        Claim::Radical {
-            radical,
-            a,
-            inclusion,
-        } => first_failing_radical_claim(report, *radical, *a, *inclusion, bytes, numbers),
-        Claim::Local {
-            module,
-            hom,
-            ideal,
-            power,
-            residue,
-        } => first_failing_local_claim(
-            report, *module, *hom, ideal, *power, *residue, bytes, numbers,
-        ),
-        Claim::Decomposition {
-            a,
-            sum,
-            to,
-            back,
-            parts,
-        } => first_failing_decomposition_claim(
-            report,
-            *a,
-            *sum,
-            *to,
-            *back,
-            parts.as_slice(),
-            numbers,
-        ),
+        Claim::Kernel { .. } => first_failing_by_map(report, k, item, bytes, numbers),
+        Claim::Cokernel { .. } => first_failing_by_map(report, k, item, bytes, numbers),
+        Claim::Radical { .. } => first_failing_by_map(report, k, item, bytes, numbers),
+        Claim::Local { .. } => first_failing_on_local(report, k, item, bytes, numbers),
+        Claim::Decomposition { .. } => first_failing_on_local(report, k, item, bytes, numbers),
         Claim::Resolution { a, n, terms } => {
             first_failing_resolution_claim(table, report, *a, *n, terms, bytes, numbers)
         }
-        Claim::Ext {
-            n,
-            a,
-            b,
-            rows,
-            resolution,
-        } => first_failing_extension_claim(
-            table,
-            report,
-            *n,
-            *a,
-            *b,
-            rows,
-            *resolution,
-            bytes,
-            numbers,
-        ),
-        Claim::Translate {
-            which,
-            module,
-            a,
-            resolution,
-            rows,
-        } => first_failing_translate_claim(
-            table,
-            report,
-            *which,
-            *module,
-            *a,
-            *resolution,
-            rows,
-            bytes,
-            numbers,
-        ),
-        Claim::AlmostSplit {
-            left,
-            middle,
-            right,
-            f,
-            g,
-            resolution,
-            local,
-            phi,
-            left_rows,
-            middle_rows,
-        } => first_failing_sequence_claim(
-            table,
-            report,
-            *left,
-            *middle,
-            *right,
-            *f,
-            *g,
-            *resolution,
-            *local,
-            phi,
-            left_rows,
-            middle_rows,
-            bytes,
-            numbers,
-        ),
-        Claim::Basis { .. } => unreachable!(),
+        Claim::Ext { .. } => first_failing_over_resolution(table, report, k, item, bytes, numbers),
+        Claim::Translate { .. } => {
+            first_failing_over_resolution(table, report, k, item, bytes, numbers)
+        }
+        Claim::AlmostSplit { .. } => {
+            first_failing_of_sequence(table, report, k, item, bytes, numbers)
+        }
     }
 }
 

@@ -2,6 +2,7 @@
 #![tactic(auto)]
 
 mod claims;
+mod groups;
 mod kinds;
 mod objects;
 mod parts;

@@ -19,7 +19,7 @@ use path_algebra::Header;
 use seq::Seq;
 
 /// How many coordinates stand before those of a vertex.
-fn first_place(dims: &Seq<u32>, vertex: u8) -> usize
+pub fn first_place(dims: &Seq<u32>, vertex: u8) -> usize
     requires vertex { vertex < length dims.now }
     requires small { (v : ℕ) → slice_index dims.now v ≤ 256 }
     ensures { result ≡ total vertex (slice_index dims.now) }
@@ -32,7 +32,7 @@ fn first_place(dims: &Seq<u32>, vertex: u8) -> usize
 }
 
 /// Writes the rows of the identity matrix, and zeros behind them.
-fn write_unit_rows(count: u32, entries: &mut [u8])
+pub fn write_unit_rows(count: u32, entries: &mut [u8])
     requires { count * count ≤ length entries.old }
     ensures units { IsUnitRows count count entries.new }
     ensures elements { (q : Gf) → AreElements q entries.new }
@@ -44,7 +44,7 @@ fn write_unit_rows(count: u32, entries: &mut [u8])
 }
 
 /// Writes into `entries`, which are zero, rows that span what the first `count` rows of `images` become along all arrows, and answers how many.
-fn next_images(
+pub fn next_images(
     header: &Header,
     m: &Module,
     unknowns: u32,

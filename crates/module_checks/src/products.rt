@@ -47,7 +47,7 @@ fn rows_agree(field: Field, a: &Matrix, b: &Matrix, c: &Matrix, d: &Matrix, i: u
 }
 
 /// Whether the product of `a` and `b` is that of `c` and `d`, which has as many rows and columns.
-pub(crate) fn products_agree(field: Field, a: &Matrix, b: &Matrix, c: &Matrix, d: &Matrix) -> bool
+pub fn products_agree(field: Field, a: &Matrix, b: &Matrix, c: &Matrix, d: &Matrix) -> bool
     requires a_field { a.now.field ≡ field }
     requires b_field { b.now.field ≡ field }
     requires c_field { c.now.field ≡ field }

@@ -84,7 +84,7 @@ fn first_vertex(side: Side, path: &Path) -> u8
 }
 
 /// Whether relation `r` acts as zero, on a module or on any representation. The three slices are worked in; each has a place for each dimension.
-fn acts_as_zero(
+pub fn acts_as_zero(
     header: &Header,
     m: &Module,
     r: usize,

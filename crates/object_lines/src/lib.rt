@@ -10,9 +10,9 @@ mod terms;
 mod writing;
 
 pub use matrices::{read_at_arrow, read_at_vertex, read_matrix};
-pub use numbers::read_numbers;
+pub use numbers::{read_numbers, take_entries};
 pub use objects::{ModuleHead, read_map, read_module};
-pub use rows::{add_row_line, read_gen, read_phi, read_row};
+pub use rows::{add_row_line, read_gen};
 pub use singles::{is_left, is_middle, read_ideal, read_power, read_residue};
 pub use terms::read_term;
 pub use writing::{

@@ -93,8 +93,9 @@ fn next_vertex(quiver: &Quiver, tokens: &mut Parts<'_>) -> Option<u8>
     vertex_place(quiver, name)
 }
 
-/// Takes so many entries behind those that are there, and says whether they were.
-pub(crate) fn take_entries(
+/// Takes so many entries, each an element of the field, behind those that are there. `Ok(false)`: the next tokens are not so many; some may then have been taken.
+/// `Err`: memory is wanting.
+pub fn take_entries(
     entries: &mut Vec<u8>,
     field: Field,
     count: u32,

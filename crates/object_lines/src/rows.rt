@@ -2,7 +2,7 @@
 ghost use Rattle.std.specs.Prelude.{ℕ, ◌≡◌, ◌∷◌, List, IfOk, MatchBool};
 ghost use Rattle.linear_algebra.specs.Rows.{IsRow};
 ghost use Rattle.header_text.specs.Reading.{Reads};
-ghost use Rattle.object_lines.specs.Spelling.{numbers_form, row_line, gen_line, phi_line};
+ghost use Rattle.object_lines.specs.Spelling.{numbers_form, row_line, gen_line};
 ghost use Rattle.object_lines.specs.Reading.{AddsRow};
 
 use crate::numbers::take_entries;
@@ -81,19 +81,6 @@ pub fn add_row_line(
     Ok(added)
 }
 
-/// Reads the tokens of the line of a row of a matrix, of exactly `width` entries. `Ok(None)`: they are not those of such a row. `Err`: memory is wanting.
-pub fn read_row(
-    alloc: Global,
-    field: Field,
-    width: u32,
-    tokens: Parts<'_>,
-) -> Result<Option<Seq<u8>>, AllocError>
-    ensures { IfOk result (λ r. Reads (IsRow field width) row_line tokens.entry r) }
-{
-    let row = row_of(alloc, b"row", field, width, tokens)?;
-    Ok(row)
-}
-
 /// Reads the tokens of the line of the row that a generator goes to. `Ok(None)`: they are not those of such a row. `Err`: memory is wanting.
 pub fn read_gen(
     alloc: Global,
@@ -104,18 +91,5 @@ pub fn read_gen(
     ensures { IfOk result (λ r. Reads (IsRow field width) gen_line tokens.entry r) }
 {
     let row = row_of(alloc, b"gen", field, width, tokens)?;
-    Ok(row)
-}
-
-/// Reads the tokens of the line of a functional. `Ok(None)`: they are not those of a row of this length. `Err`: memory is wanting.
-pub fn read_phi(
-    alloc: Global,
-    field: Field,
-    width: u32,
-    tokens: Parts<'_>,
-) -> Result<Option<Seq<u8>>, AllocError>
-    ensures { IfOk result (λ r. Reads (IsRow field width) phi_line tokens.entry r) }
-{
-    let row = row_of(alloc, b"phi", field, width, tokens)?;
     Ok(row)
 }

@@ -9,5 +9,5 @@ returns-then-not-taken c = no_row c.args.field (functional_width c.args.counts.n
 
 pub returns : goal.returns
 returns c =
-    entries_row c.args.field (functional_width c.args.counts.now) c.new-entries.result c.take_parts.new.entries c.args.tokens c.take_parts.new.tokens c.new-entries.ensures (c.if-not-is_done.ensures.0 refl)
-    (rw c.if-not-taken.false at c.in_ok-taken.ensures)
+    entries_row c.args.field (functional_width c.args.counts.now) c.new-entries.result.items c.take_parts.new.entries.items c.from_vec.result c.args.tokens c.take_parts.new.tokens c.new-entries.ensures.items
+    (c.if-not-is_done.ensures.0 refl) c.from_vec.ensures (rw c.if-not-taken.false at c.in_ok-taken.ensures)
