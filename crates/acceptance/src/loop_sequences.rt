@@ -1,6 +1,6 @@
 //! What `check` answers to reports of almost split sequences over a loop.
 
-use crate::tables::holds;
+use crate::tables::{holds, is_written_back};
 use std::test::Fail;
 
 const ROWS: &str = "
@@ -246,6 +246,7 @@ pub(crate) fn rows() -> &'static str {
 fn loop_sequences_have_their_verdicts(rt: HostRuntime) -> Result<(), Fail> {
     for row in rows().split("\n> ").skip(1) {
         assert!(rt; holds(&rt, row)?, "{row}");
+        assert!(rt; is_written_back(&rt, row)?, "{row}");
     }
     Ok(())
 }
