@@ -49,6 +49,16 @@ FitsHead h rs (head.Decomposition a s f g parts) = ⊥
 FitsHead h rs (head.Translate which n a c) = FitsPresentation h rs c
 FitsHead h rs (head.AlmostSplit n e a f g c l) = FitsSequence h rs (sequence_of n e a f g c l)
 
+-- claims on homomorphisms or extensions; on almost split sequences
+abbrev pub IsOnSpace : Head → Type 0
+IsOnSpace (head.Hom a b count) = ⊤
+IsOnSpace (head.Ext n a b count c) = ⊤
+IsOnSpace x = ⊥
+
+abbrev pub IsOnSequence : Head → Type 0
+IsOnSequence (head.AlmostSplit n e a f g c l) = ⊤
+IsOnSequence x = ⊥
+
 -- the block before its first line; of another kind, one of no rows
 abbrev pub other_block : Header → List Record → Block
 other_block h rs = block.Rows (row_block h rs (space.Hom 0 0) 0)

@@ -8,7 +8,7 @@ ghost use Rattle.claim_blocks.specs.LocalBlocks.{FitsLocal, local_block};
 ghost use Rattle.claim_blocks.specs.TermBlocks.{FitsResolution, term_block};
 ghost use Rattle.claim_blocks.specs.VertexBlocks.{FitsPresentation, vertex_block};
 ghost use Rattle.claim_blocks.specs.SequenceBlocks.{FitsSequence, sequence_block};
-ghost use Rattle.claim_blocks.specs.Blocks.{FitsHead, begin_block, BlockStep, whole_block, block_claim};
+ghost use Rattle.claim_blocks.specs.Blocks.{FitsHead, IsOnSpace, IsOnSequence, begin_block, BlockStep, whole_block, block_claim};
 
 use crate::context::Context;
 use crate::local_block::LocalBlock;
@@ -41,6 +41,36 @@ fn begin_rows(alloc: Global, context: &Context<'_>, space: Space, count: u32) ->
         return None;
     };
     Some(Block::Rows(rows))
+}
+
+/// The rows of a claim on homomorphisms or on extensions, before the first of them.
+fn begin_space(alloc: Global, context: &Context<'_>, head: &Head) -> Option<Block>
+    requires { IsOnSpace head.now }
+    ensures { MatchOption result (¬ FitsHead context.now.header context.now.records head.now)
+        (λ b. FitsHead context.now.header context.now.records head.now × (b ≡ begin_block context.now.header context.now.records head.now)) }
+{
+    match head {
+        Head::Hom { a, b, count } => {
+            let space = Space::Hom { a: *a, b: *b };
+            begin_rows(alloc, context, space, *count)
+        }
+        Head::Ext {
+            n,
+            a,
+            b,
+            count,
+            resolution,
+        } => {
+            let space = Space::Ext {
+                n: *n,
+                a: *a,
+                b: *b,
+                resolution: *resolution,
+            };
+            begin_rows(alloc, context, space, *count)
+        }
+        _ => None,
+    }
 }
 
 /// The lines of a claim that a module is local, before the first of them.
@@ -90,8 +120,8 @@ fn begin_vertices(
     Ok(Some(Block::Vertices(matrices)))
 }
 
-/// The lines of a claim that a sequence is almost split, before the first of them.
-fn begin_sequence(
+/// The lines of a claim that this sequence is almost split, before the first of them.
+fn begin_lines(
     alloc: Global,
     context: &Context<'_>,
     of: Sequence,
@@ -104,6 +134,43 @@ fn begin_sequence(
         return Ok(None);
     };
     Ok(Some(Block::Sequence(lines)))
+}
+
+/// The lines of a claim that a sequence is almost split, before the first of them.
+fn begin_sequence(
+    alloc: Global,
+    context: &Context<'_>,
+    head: &Head,
+) -> Result<Option<Block>, AllocError>
+    requires named { IsNamed context.now.header.quiver }
+    requires kind { IsOnSequence head.now }
+    ensures { IfOk result (λ r. MatchOption r (¬ FitsHead context.now.header context.now.records head.now)
+        (λ b. FitsHead context.now.header context.now.records head.now × (b ≡ begin_block context.now.header context.now.records head.now))) }
+{
+    match head {
+        Head::AlmostSplit {
+            left,
+            middle,
+            right,
+            f,
+            g,
+            resolution,
+            local,
+        } => {
+            let of = Sequence {
+                left: *left,
+                middle: *middle,
+                right: *right,
+                f: *f,
+                g: *g,
+                resolution: *resolution,
+                local: *local,
+            };
+            let lines = begin_lines(alloc, context, of)?;
+            Ok(lines)
+        }
+        _ => Ok(None),
+    }
 }
 
 impl Block {
@@ -119,25 +186,8 @@ impl Block {
             (λ b. FitsHead context.now.header context.now.records head.now × (b ≡ begin_block context.now.header context.now.records head.now))) }
     {
         match head {
-            Head::Hom { a, b, count } => {
-                let space = Space::Hom { a: *a, b: *b };
-                Ok(begin_rows(alloc, context, space, *count))
-            }
-            Head::Ext {
-                n,
-                a,
-                b,
-                count,
-                resolution,
-            } => {
-                let space = Space::Ext {
-                    n: *n,
-                    a: *a,
-                    b: *b,
-                    resolution: *resolution,
-                };
-                Ok(begin_rows(alloc, context, space, *count))
-            }
+            Head::Hom { .. } => Ok(begin_space(alloc, context, head)),
+            Head::Ext { .. } => Ok(begin_space(alloc, context, head)),
             Head::Local { module, hom } => Ok(begin_local(alloc, context, *module, *hom)),
             Head::Resolution { a, n } => {
                 let terms = begin_terms(alloc, context, *a, *n)?;
@@ -152,25 +202,8 @@ impl Block {
                 let matrices = begin_vertices(alloc, context, *which, *module, *a, *resolution)?;
                 Ok(matrices)
             }
-            Head::AlmostSplit {
-                left,
-                middle,
-                right,
-                f,
-                g,
-                resolution,
-                local,
-            } => {
-                let of = Sequence {
-                    left: *left,
-                    middle: *middle,
-                    right: *right,
-                    f: *f,
-                    g: *g,
-                    resolution: *resolution,
-                    local: *local,
-                };
-                let lines = begin_sequence(alloc, context, of)?;
+            Head::AlmostSplit { .. } => {
+                let lines = begin_sequence(alloc, context, head)?;
                 Ok(lines)
             }
             _ => Ok(None),

@@ -1,5 +1,5 @@
 -- What has been read of a report, and what is read with one line more.
-use Rattle.std.specs.Prelude.{ℕ, ◌+◌, ◌==◌, List, [], ◌∷◌, ◌++◌, length, if◌then◌else◌, None, Some}
+use Rattle.std.specs.Prelude.{ℕ, ⊤, ◌+◌, ◌==◌, List, [], ◌∷◌, ◌++◌, length, if◌then◌else◌, None, Some}
 use Rattle.fp_linear.specs.Matrix.{PlainMatrix}
 use Rattle.quiver_paths.specs.declared.Path.{Path}
 use Rattle.quiver_paths.specs.declared.Quiver.{Quiver}
@@ -153,20 +153,33 @@ with_block p line x = at_block (record p { line = line }) (begin_block p.front.h
 
 -- ---- between whole objects and claims
 
+-- the claim that its first line says whole; of another kind, that of module 0
+abbrev pub line_claim : Head → Claim
+line_claim (head.Module m) = claim.Module m
+line_claim (head.Map f) = claim.Map f
+line_claim (head.Kernel n f i) = claim.Kernel n f i
+line_claim (head.Cokernel n f i) = claim.Cokernel n f i
+line_claim (head.Radical n a i) = claim.Radical n a i
+line_claim (head.Decomposition a s f g parts) = claim.Decomposition a s f g parts
+line_claim x = claim.Module 0
+
+-- claims of kernels, cokernels and radicals
+abbrev pub IsOnSubmodule : Head → Type 0
+IsOnSubmodule (head.Kernel n f i) = ⊤
+IsOnSubmodule (head.Cokernel n f i) = ⊤
+IsOnSubmodule (head.Radical n a i) = ⊤
+IsOnSubmodule x = ⊥
+
+-- with the first line of a claim
 abbrev pub with_head : Part → ℕ → Head → Part
 with_head p line head.Basis = record p { place = place.WordCount; line = line }
-with_head p line (head.Module m) = claimed p line (claim.Module m)
-with_head p line (head.Map f) = claimed p line (claim.Map f)
-with_head p line (head.Kernel n f i) = claimed p line (claim.Kernel n f i)
-with_head p line (head.Cokernel n f i) = claimed p line (claim.Cokernel n f i)
-with_head p line (head.Radical n a i) = claimed p line (claim.Radical n a i)
-with_head p line (head.Decomposition a s f g parts) = claimed p line (claim.Decomposition a s f g parts)
 with_head p line (head.Hom a b count) = with_block p line (head.Hom a b count)
 with_head p line (head.Resolution a n) = with_block p line (head.Resolution a n)
 with_head p line (head.Ext n a b count c) = with_block p line (head.Ext n a b count c)
 with_head p line (head.Local m c) = with_block p line (head.Local m c)
 with_head p line (head.Translate which n a c) = with_block p line (head.Translate which n a c)
 with_head p line (head.AlmostSplit n e a f g c l) = with_block p line (head.AlmostSplit n e a f g c l)
+with_head p line x = claimed p line (line_claim x)
 
 abbrev pub with_item : Part → Item → Part
 with_item p (item.Module side dims) = fill (record p { dims = dims; matrices = [] }) (owner.Module side)

@@ -13,7 +13,7 @@ ghost use Rattle.claim_lines.specs.Spelling.{claim_line, end_line};
 ghost use Rattle.claim_text.specs.declared.part.Part.{Part};
 ghost use Rattle.claim_text.specs.Judged.{IsJudgedHead};
 ghost use Rattle.claim_blocks.specs.Blocks.{FitsHead as FitsLines};
-ghost use Rattle.claim_text.specs.Part.{here, counts_of, fill, with_head, with_item};
+ghost use Rattle.claim_text.specs.Part.{here, counts_of, fill, line_claim, IsOnSubmodule, with_head, with_item};
 ghost use Rattle.claim_text.specs.Steps.{Takes, FitsItem, item_line, FitsModule, FitsMap, FitsHead, FitsKind, FitsLast};
 
 use crate::part::{Item, Owner, Part, Place};
@@ -55,6 +55,70 @@ fn is_judged(head: &Head) -> bool
         Head::Decomposition { .. } => true,
         Head::Translate { .. } => true,
         Head::AlmostSplit { .. } => true,
+    }
+}
+
+/// The claim of a kernel, a cokernel or a radical, which its first line says whole.
+fn submodule_claim(head: Head) -> Claim
+    requires { IsOnSubmodule head }
+    ensures { result ≡ line_claim head }
+{
+    match head {
+        Head::Kernel {
+            kernel,
+            f,
+            inclusion,
+        } => Claim::Kernel {
+            kernel,
+            f,
+            inclusion,
+        },
+        Head::Cokernel {
+            cokernel,
+            f,
+            projection,
+        } => Claim::Cokernel {
+            cokernel,
+            f,
+            projection,
+        },
+        Head::Radical {
+            radical,
+            a,
+            inclusion,
+        } => Claim::Radical {
+            radical,
+            a,
+            inclusion,
+        },
+        _ => Claim::Module { module: 0 },
+    }
+}
+
+/// The claim that its first line says whole; of another kind, that of module 0.
+fn line_claim(head: Head) -> Claim
+    ensures { result ≡ line_claim head }
+{
+    match head {
+        Head::Module { module } => Claim::Module { module },
+        Head::Map { map } => Claim::Map { map },
+        Head::Kernel { .. } => submodule_claim(head),
+        Head::Cokernel { .. } => submodule_claim(head),
+        Head::Radical { .. } => submodule_claim(head),
+        Head::Decomposition {
+            a,
+            sum,
+            to,
+            back,
+            parts,
+        } => Claim::Decomposition {
+            a,
+            sum,
+            to,
+            back,
+            parts,
+        },
+        _ => Claim::Module { module: 0 },
     }
 }
 
@@ -295,64 +359,12 @@ impl Part {
                 self.line = line;
                 Ok(())
             }
-            Head::Module { module } => self.close_claim(alloc, line, Claim::Module { module }),
-            Head::Map { map } => self.close_claim(alloc, line, Claim::Map { map }),
-            Head::Kernel {
-                kernel,
-                f,
-                inclusion,
-            } => self.close_claim(
-                alloc,
-                line,
-                Claim::Kernel {
-                    kernel,
-                    f,
-                    inclusion,
-                },
-            ),
-            Head::Cokernel {
-                cokernel,
-                f,
-                projection,
-            } => self.close_claim(
-                alloc,
-                line,
-                Claim::Cokernel {
-                    cokernel,
-                    f,
-                    projection,
-                },
-            ),
-            Head::Radical {
-                radical,
-                a,
-                inclusion,
-            } => self.close_claim(
-                alloc,
-                line,
-                Claim::Radical {
-                    radical,
-                    a,
-                    inclusion,
-                },
-            ),
-            Head::Decomposition {
-                a,
-                sum,
-                to,
-                back,
-                parts,
-            } => self.close_claim(
-                alloc,
-                line,
-                Claim::Decomposition {
-                    a,
-                    sum,
-                    to,
-                    back,
-                    parts,
-                },
-            ),
+            Head::Module { .. } => self.close_claim(alloc, line, line_claim(head)),
+            Head::Map { .. } => self.close_claim(alloc, line, line_claim(head)),
+            Head::Kernel { .. } => self.close_claim(alloc, line, line_claim(head)),
+            Head::Cokernel { .. } => self.close_claim(alloc, line, line_claim(head)),
+            Head::Radical { .. } => self.close_claim(alloc, line, line_claim(head)),
+            Head::Decomposition { .. } => self.close_claim(alloc, line, line_claim(head)),
             Head::Hom { .. } => self.begin_block(alloc, line, &head),
             Head::Resolution { .. } => self.begin_block(alloc, line, &head),
             Head::Ext { .. } => self.begin_block(alloc, line, &head),
