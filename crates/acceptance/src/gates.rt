@@ -6,21 +6,48 @@ use report_types::Verdict;
 use std::sync::atomic::{AtomicU64, Ordering};
 use std::test::Fail;
 
-/// A point, and two modules over it, one for each run of two workers.
+/// The smallest almost split sequence: of two workers one has claim 2, the other claim 6.
 const REPORT: &str = "report 1
 field 2
 vertex 1
+vertex 2
+arrow a 1 2
 bound 2
-claim 1 line 4 basis
-words 1
+claim 1 line 6 basis
+words 3
 word @1
+word @2
+word a
 steps 0
 rules 0
-module 1 right 1
-claim 2 line 5 module 1
-module 2 right 2
-claim 3 line 6 module 2
-end 3
+module 1 right 1 0
+claim 2 line 7 module 1
+claim 3 line 8 hom 1 1 1
+row 1
+claim 4 line 8 local 1 using 3
+ideal 0
+power 1
+residue frobenius
+claim 5 line 8 resolution 1 1
+term 0 1 1
+gen 1
+term 1 1 2
+gen 1
+module 2 right 0 1
+module 3 right 1 1
+at a 1
+map 1 2 3
+at 2 1
+map 2 3 1
+at 1 1
+claim 6 line 8 almostsplit 2 3 1 1 2 using 5 4
+phi 1
+left
+at 2 1
+middle
+at 1 1 1
+at 2 1
+end 6
 ";
 
 /// Raises the first flag, and waits for a while until the second one is raised. Where it was, one more is counted.
@@ -51,7 +78,7 @@ fn two_claims_at_once(rt: HostRuntime) -> Result<(), Fail> {
             if claim == 2 {
                 meet(&left, &right, &seen);
             }
-            if claim == 3 {
+            if claim == 6 {
                 meet(&right, &left, &seen);
             }
         },

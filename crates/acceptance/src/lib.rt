@@ -30,6 +30,8 @@ mod scripts;
 #[cfg(test)]
 mod sequence_reports;
 #[cfg(test)]
+mod sum_reports;
+#[cfg(test)]
 mod tables;
 #[cfg(test)]
 mod term_reports;
