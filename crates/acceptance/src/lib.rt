@@ -14,6 +14,8 @@ mod lines;
 #[cfg(test)]
 mod local_reports;
 #[cfg(test)]
+mod long_reports;
+#[cfg(test)]
 mod loop_sequences;
 #[cfg(test)]
 mod module_reports;
