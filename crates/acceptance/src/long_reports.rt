@@ -539,7 +539,7 @@ end 33
 < 2
 rejected 18 middle";
 
-fn rows() -> &'static str {
+pub(crate) fn rows() -> &'static str {
     ROWS
 }
 

@@ -1,7 +1,7 @@
 //! What `check` answers with one worker, it answers with more.
 
 use crate::tables::holds_with;
-use crate::{local_reports, loop_sequences, sequence_reports};
+use crate::{local_reports, long_reports, loop_sequences, sequence_reports};
 use std::test::Fail;
 
 // The first two sequences over a loop are one that is right and one with two faults.
@@ -9,6 +9,7 @@ use std::test::Fail;
 fn workers_change_no_verdict(rt: HostRuntime) -> Result<(), Fail> {
     for (table, count) in [
         (local_reports::rows(), 1usize),
+        (long_reports::rows(), 1),
         (loop_sequences::rows(), 2),
         (sequence_reports::rows(), 1),
     ] {
