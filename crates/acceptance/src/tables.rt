@@ -161,6 +161,9 @@ pub(crate) fn is_written_back(rt: &HostRuntime, row: &str) -> Result<bool, Fail>
     let (_, rest) = row.split_once("\n").ok_or("no input")?;
     let (input, _) = rest.split_once("\n< ").ok_or("no status")?;
     let input = ended(alloc, input)?;
+    if input.len() > 67_108_864 {
+        return Ok(false);
+    }
     let Ok(report) = read(alloc, input.as_slice()) else {
         return Ok(true);
     };
