@@ -2,7 +2,6 @@
 use Rattle.std.proofs.Common.{None, ◌≡◌, ℕ, suc, ◌+◌, ◌<◌, ◌^◌, false, true, List, [], ◌∷◌, ◌++◌, map, length, cond, refl, sym, ap, ◌∙◌, subst, arith, append_assoc, append-nil, lit<}
 use Rattle.std.specs.Prelude.{All, take}
 use Rattle.std.proofs.lemmas.List.{length-append}
-use Rattle.std.proofs.lemmas.List.Elements.{All-head, All-tail}
 use Rattle.quiver_paths.proofs.ListLemmas.{length-pushed}
 use Rattle.path_algebra.specs.declared.Header.{Header}
 use Rattle.path_algebra.specs.Allowed.{IsAllowed}
@@ -47,7 +46,6 @@ use Rattle.claim_text.specs.declared.part.Item.TheVariants as item
 use Rattle.claim_text.specs.Spelling.{block_lines, module_lines, map_lines, head_of, claim_block, record_lines, records_lines, report_lines}
 use Rattle.claim_text.specs.Part.{start, report_of, unclaimed, here, counts_of, claimed, at_block, with_block, with_head, with_item}
 use Rattle.claim_text.specs.Steps.{TokenStep, begins_body, lexed_begins, is_header_line, StepBy, Step, FitsKind, FitsHead, FitsItem, item_line}
-use Rattle.claim_text.specs.Judged.{IsJudgedHead, IsJudged}
 use Rattle.claim_text.specs.Texts.{IsTextOf}
 use Rattle.claim_text.proofs.Runs.{Run, run_none, run_line, run_append, taken}
 use Rattle.claim_blocks.specs.Blocks.{FitsHead as FitsLines, HasBlock, begin_block}
@@ -114,12 +112,11 @@ module _ (h : Header) (ok : IsAllowed h) where
     map_number : (line : ℕ) (c : Claim) (f : ℕ) → NamesMap (with_claim line c) f → IsNumber (counts_of p).maps f
     map_number line c f is = subst (λ l. IsNumber (length l) f) (same_maps rs record { line = line; modules = ms; maps = fs; claim = c } (unclaimed p) refl) is
 
-    fits_head : (line : ℕ) (x : Head) → FitsClaim (length rs) (counts_of p) (line, x) → IsJudgedHead x → FitsKind p x → FitsHead p line x
-    fits_head line x fits judged kind = record {
+    fits_head : (line : ℕ) (x : Head) → FitsClaim (length rs) (counts_of p) (line, x) → FitsKind p x → FitsHead p line x
+    fits_head line x fits kind = record {
       few_modules = let m = modules_count rs (unclaimed p) in omega (arith, m, few_modules);
       few_maps = let f = maps_count rs (unclaimed p) in omega (arith, f, few_maps);
       claim = fits;
-      judged = judged;
       kind = kind;
     }
 
@@ -149,16 +146,16 @@ module _ (h : Header) (ok : IsAllowed h) where
     claim_number line c k is = record { from = is.from; to = let to = is.earlier in let long = length-pushed rs (with_claim line c) record { line = line; modules = ms; maps = fs; claim = c } refl in omega (arith, to, long) }
 
     -- a claim with lines behind the first one
-    block_read : (line : ℕ) (c : Claim) → ((k : ℕ) → MayBeRecord h (take k rs) (record_of rs k)) → IsLine line → IsJudged c → HasBlock c → IsClaimBlock h (with_claim line c) c → AreNumbers (length rs) (counts_of p).modules (counts_of p).maps (head_of c)
+    block_read : (line : ℕ) (c : Claim) → ((k : ℕ) → MayBeRecord h (take k rs) (record_of rs k)) → IsLine line → HasBlock c → IsClaimBlock h (with_claim line c) c → AreNumbers (length rs) (counts_of p).modules (counts_of p).maps (head_of c)
         → with_head p line (head_of c) ≡ with_block p line (head_of c) → ((0 < length rs) × FitsLines h (here p) (head_of c) → FitsKind p (head_of c))
         → Run p (claim_line (length rs + 1) line (head_of c) ∷ claim_block h c) (between h ok (with_claim line c) [] [])
-    block_read line c each is read has block numbers leads kind =
+    block_read line c each is has block numbers leads kind =
         let q = record p { line = line } in
         let x = head_of c in
         let there : IsClaimBlock h (here p) c =
         block_too h rs record { line = line; modules = ms; maps = fs; claim = c } (unclaimed p) refl refl some c block in
         let whole = block_read_whole h named (here p) (terms_declared h p each) (modules_small h p each lawful) c has there in
-        let fits = fits_head line x record { room = room; is_line = is; numbers = numbers } read (kind (some, whole.fits)) in
+        let fits = fits_head line x record { room = room; is_line = is; numbers = numbers } (kind (some, whole.fits)) in
         let first = begin_block h (here p) x in
         let lines = lines_read q named fits.few_modules fits.few_maps first whole.last (claim_block h c) whole.leads whole.whole in
         run_append p (at_block q first) (between h ok (with_claim line c) [] []) (claim_line (length rs + 1) line x ∷ []) (claim_block h c) (head_read line x (at_block q first) leads fits)
@@ -169,23 +166,23 @@ module _ (h : Header) (ok : IsAllowed h) where
     translate_number line c Transpose n k rows shape = tt
     translate_number line c (Taui b) n k rows shape = module_number line c b shape.0
 
-    claim_read : (line : ℕ) (c : Claim) → ((k : ℕ) → MayBeRecord h (take k rs) (record_of rs k)) → IsLine line → IsJudged c → HasItsPlace (with_claim line c) record { line = line; modules = ms; maps = fs; claim = c } c → IsClaimBlock h (with_claim line c) c
+    claim_read : (line : ℕ) (c : Claim) → ((k : ℕ) → MayBeRecord h (take k rs) (record_of rs k)) → IsLine line → HasItsPlace (with_claim line c) record { line = line; modules = ms; maps = fs; claim = c } c → IsClaimBlock h (with_claim line c) c
         → Run p (claim_line (length rs + 1) line (head_of c) ∷ claim_block h c) (between h ok (with_claim line c) [] [])
-    claim_read line (claim.Basis words steps rules) each is read place block = absurd (no_basis line (claim.Basis words steps rules) place.0)
-    claim_read line (claim.Module m) each is read place block =
-        head_read line (head.Module m) _ refl (fits_head line (head.Module m) record { room = room; is_line = is; numbers = module_number line (claim.Module m) m block } read some)
-    claim_read line (claim.Map f) each is read place block =
-        head_read line (head.Map f) _ refl (fits_head line (head.Map f) record { room = room; is_line = is; numbers = map_number line (claim.Map f) f block } read some)
-    claim_read line (claim.Kernel n f i) each is read place block =
+    claim_read line (claim.Basis words steps rules) each is place block = absurd (no_basis line (claim.Basis words steps rules) place.0)
+    claim_read line (claim.Module m) each is place block =
+        head_read line (head.Module m) _ refl (fits_head line (head.Module m) record { room = room; is_line = is; numbers = module_number line (claim.Module m) m block } some)
+    claim_read line (claim.Map f) each is place block =
+        head_read line (head.Map f) _ refl (fits_head line (head.Map f) record { room = room; is_line = is; numbers = map_number line (claim.Map f) f block } some)
+    claim_read line (claim.Kernel n f i) each is place block =
         let c = claim.Kernel n f i in
-        head_read line (head.Kernel n f i) _ refl (fits_head line (head.Kernel n f i) record { room = room; is_line = is; numbers = (module_number line c n block.objects.is_module, map_number line c f block.objects.is_map, map_number line c i block.is_map) } read some)
-    claim_read line (claim.Cokernel n f i) each is read place block =
+        head_read line (head.Kernel n f i) _ refl (fits_head line (head.Kernel n f i) record { room = room; is_line = is; numbers = (module_number line c n block.objects.is_module, map_number line c f block.objects.is_map, map_number line c i block.is_map) } some)
+    claim_read line (claim.Cokernel n f i) each is place block =
         let c = claim.Cokernel n f i in
-        head_read line (head.Cokernel n f i) _ refl (fits_head line (head.Cokernel n f i) record { room = room; is_line = is; numbers = (module_number line c n block.objects.is_module, map_number line c f block.objects.is_map, map_number line c i block.is_map) } read some)
-    claim_read line (claim.Radical n a i) each is read place block =
+        head_read line (head.Cokernel n f i) _ refl (fits_head line (head.Cokernel n f i) record { room = room; is_line = is; numbers = (module_number line c n block.objects.is_module, map_number line c f block.objects.is_map, map_number line c i block.is_map) } some)
+    claim_read line (claim.Radical n a i) each is place block =
         let c = claim.Radical n a i in
-        head_read line (head.Radical n a i) _ refl (fits_head line (head.Radical n a i) record { room = room; is_line = is; numbers = (module_number line c n block.objects.is_module, module_number line c a block.is_module, map_number line c i block.objects.is_map) } read some)
-    claim_read line (claim.Decomposition a s f g parts) each is read place block =
+        head_read line (head.Radical n a i) _ refl (fits_head line (head.Radical n a i) record { room = room; is_line = is; numbers = (module_number line c n block.objects.is_module, module_number line c a block.is_module, map_number line c i block.objects.is_map) } some)
+    claim_read line (claim.Decomposition a s f g parts) each is place block =
         let c = claim.Decomposition a s f g parts in
         head_read line (head.Decomposition a s f g parts) _ refl
         (fits_head line (head.Decomposition a s f g parts)
@@ -199,32 +196,32 @@ module _ (h : Header) (ok : IsAllowed h) where
             map_number line c g block.sum.is_map,
             part_numbers line c parts block.each,
           );
-        } read (some, part_kinds line c parts block.each))
-    claim_read line (claim.Hom a b rows) each is read place block =
+        } (some, part_kinds line c parts block.each))
+    claim_read line (claim.Hom a b rows) each is place block =
         let c = claim.Hom a b rows in
-        block_read line c each is read tt block (module_number line c a block.first, module_number line c b block.second, (let few = block.are_rows.few in let small = block.small in omega (arith, few, small))) refl (λ fits. fits)
-    claim_read line (claim.Resolution a n terms) each is read place block =
+        block_read line c each is tt block (module_number line c a block.first, module_number line c b block.second, (let few = block.are_rows.few in let small = block.small in omega (arith, few, small))) refl (λ fits. fits)
+    claim_read line (claim.Resolution a n terms) each is place block =
         let c = claim.Resolution a n terms in
-        block_read line c each is read tt block (module_number line c a block.named, block.short) refl (λ fits. fits)
-    claim_read line (claim.Ext n a b rows c') each is read place block =
+        block_read line c each is tt block (module_number line c a block.named, block.short) refl (λ fits. fits)
+    claim_read line (claim.Ext n a b rows c') each is place block =
         let c = claim.Ext n a b rows c' in
-        block_read line c each is read tt block ((let short = resolution_short h rs each c' (suc n) (subst (λ d. HasLength d (suc n)) (claim_earlier rs record { line = line; modules = ms; maps = fs; claim = c } c' (claim_number line c c' block.resolution.named).to) block.resolution.length) in omega (arith, short)), module_number line c a block.first, module_number line c b block.second, (let few = block.are_rows.few in let small = block.small in omega (arith, few, small)), claim_number line c c' block.resolution.named) refl (λ fits. fits)
-    claim_read line (claim.Local m c' ideal power residue) each is read place block =
+        block_read line c each is tt block ((let short = resolution_short h rs each c' (suc n) (subst (λ d. HasLength d (suc n)) (claim_earlier rs record { line = line; modules = ms; maps = fs; claim = c } c' (claim_number line c c' block.resolution.named).to) block.resolution.length) in omega (arith, short)), module_number line c a block.first, module_number line c b block.second, (let few = block.are_rows.few in let small = block.small in omega (arith, few, small)), claim_number line c c' block.resolution.named) refl (λ fits. fits)
+    claim_read line (claim.Local m c' ideal power residue) each is place block =
         let c = claim.Local m c' ideal power residue in
-        block_read line c each is read tt block (module_number line c m block.is_module, claim_number line c c' block.named) refl (λ fits. fits)
-    claim_read line (claim.Translate which n a c' rows) each is read place block =
+        block_read line c each is tt block (module_number line c m block.is_module, claim_number line c c' block.named) refl (λ fits. fits)
+    claim_read line (claim.Translate which n a c' rows) each is place block =
         let c = claim.Translate which n a c' rows in
-        block_read line c each is read tt block (translate_number line c which n c' rows block.shape, module_number line c n block.is_module, module_number line c a block.named, claim_number line c c' block.presentation.resolution.named) refl (λ fits. fits)
-    claim_read line (claim.AlmostSplit n e a f g c' l phi left middle) each is read place block =
+        block_read line c each is tt block (translate_number line c which n c' rows block.shape, module_number line c n block.is_module, module_number line c a block.named, claim_number line c c' block.presentation.resolution.named) refl (λ fits. fits)
+    claim_read line (claim.AlmostSplit n e a f g c' l phi left middle) each is place block =
         let c = claim.AlmostSplit n e a f g c' l phi left middle in
-        block_read line c each is read tt block (module_number line c n block.first.is_module, module_number line c e block.second.is_module, module_number line c a block.ends, map_number line c f block.first.is_map, map_number line c g block.second.is_map, claim_number line c c' block.presentation.resolution.named, claim_number line c l block.named) refl (λ fits. fits)
+        block_read line c each is tt block (module_number line c n block.first.is_module, module_number line c e block.second.is_module, module_number line c a block.ends, map_number line c f block.first.is_map, map_number line c g block.second.is_map, claim_number line c c' block.presentation.resolution.named, claim_number line c l block.named) refl (λ fits. fits)
 
   -- ---- records
 
   record_read : (rs : List Record) (r : Record) → 0 < length rs → length rs + 1 < 2 ^ 32 → length (modules_of (rs ++ r ∷ [])) < 2 ^ 32 → length (maps_of (rs ++ r ∷ [])) < 2 ^ 32
-      → ((k : ℕ) → MayBeRecord h (take k rs) (record_of rs k)) → IsRecord h (rs ++ r ∷ []) r → IsJudged r.claim
+      → ((k : ℕ) → MayBeRecord h (take k rs) (record_of rs k)) → IsRecord h (rs ++ r ∷ []) r
       → Run (between h ok rs [] []) (record_lines h (length (modules_of rs)) (length (maps_of rs)) (length rs) r) (between h ok (rs ++ r ∷ []) [] [])
-  record_read rs r some room few_modules few_maps before is read =
+  record_read rs r some room few_modules few_maps before is =
       let M = length (modules_of rs) in
       let F = length (maps_of rs) in
       let m = modules_count rs r in
@@ -233,13 +230,13 @@ module _ (h : Header) (ok : IsAllowed h) where
       (modules_read h ok rs [] r.modules M some (omega arith) (omega (arith, m, few_modules)) is.modules)
       (run_append (between h ok rs r.modules []) (between h ok rs r.modules r.maps) (between h ok (rs ++ r ∷ []) [] []) (map_lines h F r.maps) (claim_line (length rs + 1) r.line (head_of r.claim) ∷ claim_block h r.claim)
       (maps_read h ok rs (rs ++ r ∷ []) r.modules [] r.maps F some (modules_push rs r) (omega arith) (omega (arith, f, few_maps)) (omega (arith, m, few_modules)) is.maps)
-      (claim_read rs r.modules r.maps some room (omega (arith, m, few_modules)) (omega (arith, f, few_maps)) is.modules r.line r.claim before is.line read is.place is.claim))
+      (claim_read rs r.modules r.maps some room (omega (arith, m, few_modules)) (omega (arith, f, few_maps)) is.modules r.line r.claim before is.line is.place is.claim))
 
   records_read : (done todo : List Record) → 0 < length done → length (done ++ todo) < 2 ^ 32 → length (modules_of (done ++ todo)) < 2 ^ 32 → length (maps_of (done ++ todo)) < 2 ^ 32
-      → ((k : ℕ) → MayBeRecord h (take k (done ++ todo)) (record_of (done ++ todo) k)) → All (λ (r : Record). IsJudged r.claim) todo
+      → ((k : ℕ) → MayBeRecord h (take k (done ++ todo)) (record_of (done ++ todo) k))
       → Run (between h ok done [] []) (records_lines h (length (modules_of done)) (length (maps_of done)) (length done) todo) (between h ok (done ++ todo) [] [])
-  records_read done [] some few few_modules few_maps each read = run_none (between h ok done [] []) (between h ok (done ++ []) [] []) (ap (λ l. between h ok l [] []) (append-nil done))
-  records_read done (r ∷ rest) some few few_modules few_maps each read =
+  records_read done [] some few few_modules few_maps each = run_none (between h ok done [] []) (between h ok (done ++ []) [] []) (ap (λ l. between h ok l [] []) (append-nil done))
+  records_read done (r ∷ rest) some few few_modules few_maps each =
       let again : (done ++ r ∷ []) ++ rest ≡ done ++ r ∷ rest = append_assoc done (r ∷ []) rest in
       let long : length (done ++ r ∷ []) ≡ length done + 1 = length-pushed done (done ++ r ∷ []) r refl in
       let m = modules_count done r in
@@ -249,9 +246,9 @@ module _ (h : Header) (ok : IsAllowed h) where
       ap (λ l. length (modules_of l)) (sym again) ∙ (ap length (modules_append (done ++ r ∷ []) rest) ∙ length-append (modules_of (done ++ r ∷ [])) (modules_of rest)) in
       let all_maps : length (maps_of (done ++ r ∷ rest)) ≡ length (maps_of (done ++ r ∷ [])) + length (maps_of rest) =
       ap (λ l. length (maps_of l)) (sym again) ∙ (ap length (maps_append (done ++ r ∷ []) rest) ∙ length-append (maps_of (done ++ r ∷ [])) (maps_of rest)) in
-      let one = record_read done r some (omega (arith, few, all_long, long)) (omega (arith, few_modules, all_modules)) (omega (arith, few_maps, all_maps)) (each_before h done (r ∷ rest) each) (record_behind h done r rest each) (All-head (λ (x : Record). IsJudged x.claim) r rest read) in
+      let one = record_read done r some (omega (arith, few, all_long, long)) (omega (arith, few_modules, all_modules)) (omega (arith, few_maps, all_maps)) (each_before h done (r ∷ rest) each) (record_behind h done r rest each) in
       let more = records_read (done ++ r ∷ []) rest (omega (arith, long)) (subst (λ l. length l < 2 ^ 32) (sym again) few) (subst (λ l. length (modules_of l) < 2 ^ 32) (sym again) few_modules)
-      (subst (λ l. length (maps_of l) < 2 ^ 32) (sym again) few_maps) (subst (λ l. (k : ℕ) → MayBeRecord h (take k l) (record_of l k)) (sym again) each) (All-tail (λ (x : Record). IsJudged x.claim) r rest read) in
+      (subst (λ l. length (maps_of l) < 2 ^ 32) (sym again) few_maps) (subst (λ l. (k : ℕ) → MayBeRecord h (take k l) (record_of l k)) (sym again) each) in
       let M = length (modules_of done) in
       let F = length (maps_of done) in
       run_append (between h ok done [] []) (between h ok (done ++ r ∷ []) [] []) (between h ok (done ++ r ∷ rest) [] []) (record_lines h M F (length done) r)
@@ -269,7 +266,7 @@ module _ (h : Header) (ok : IsAllowed h) where
       let x = item.Claim line head.Basis in
       let low = ok.bound_from in
       let p = open_header in
-      let fits : FitsItem p x = record { few_modules = lit< tt; few_maps = lit< tt; claim = record { room = lit< tt; is_line = is.line; numbers = tt }; judged = tt; kind = record { first = refl; no_module = refl; no_map = refl } } in
+      let fits : FitsItem p x = record { few_modules = lit< tt; few_maps = lit< tt; claim = record { room = lit< tt; is_line = is.line; numbers = tt }; kind = record { first = refl; no_module = refl; no_map = refl } } in
       let clear = item_clear 32 space space_stands p x named few_relations fits in
       let opens : is_header_line place.Header (strict_line (item_line p x)) ≡ false = ap (λ ts. cond (lexed_begins ts) false true) (strict_tokens-strict_line (item_line p x) clear.some clear.lacks) in
       let step : TokenStep place.Header p (item_line p x) (with_item p x) = record { ends = omega (arith, low); first = taken (FitsItem p) (item_line p) (with_item p) x fits (one_item p named few_relations) } in
@@ -315,14 +312,14 @@ module _ (h : Header) (ok : IsAllowed h) where
       let fits : FitsItem p x = record { few = few; no_module = refl; no_map = refl; ends = is } in
       run_line p (with_item p x) (ended (r ∷ rest) e) (item_line p x) [] (λ c out o. item_clear c out o p x named few_relations fits) refl (taken (FitsItem p) (item_line p) (with_item p) x fits (one_item p named few_relations)) (run_none (with_item p x) (ended (r ∷ rest) e) refl)
 
-  report_reads : (rs : List Record) (e : End) → IsReport record { header = h; records = rs; end = e } → All (λ (r : Record). IsJudged r.claim) rs
+  report_reads : (rs : List Record) (e : End) → IsReport record { header = h; records = rs; end = e }
       → Run start (report_lines record { header = h; records = rs; end = e }) (ended rs e)
-  report_reads [] e is read = run_append start open_header (ended [] e) (title_line ∷ header_lines h) (end_line h 0 e ∷ []) front_read (empty_read e is.ends)
-  report_reads (r ∷ rest) e is read =
+  report_reads [] e is = run_append start open_header (ended [] e) (title_line ∷ header_lines h) (end_line h 0 e ∷ []) front_read (empty_read e is.ends)
+  report_reads (r ∷ rest) e is =
       let first = first_read r.line r.modules r.maps r.claim (record_behind h [] r rest is.each) in
       let m = modules_count [] r in
       let f = maps_count [] r in
-      let more = records_read (r ∷ []) rest (omega arith) is.few is.few_modules is.few_maps is.each (All-tail (λ (x : Record). IsJudged x.claim) r rest read) in
+      let more = records_read (r ∷ []) rest (omega arith) is.few is.few_modules is.few_maps is.each in
       let more' : Run (between h ok (r ∷ []) [] []) (records_lines h (0 + length r.modules) (0 + length r.maps) (0 + 1) rest) (between h ok (r ∷ rest) [] []) =
       subst (λ k. Run (between h ok (r ∷ []) [] []) (records_lines h (0 + length r.modules) k 1 rest) (between h ok (r ∷ rest) [] [])) f
       (subst (λ k. Run (between h ok (r ∷ []) [] []) (records_lines h k (length (maps_of (r ∷ []))) 1 rest) (between h ok (r ∷ rest) [] [])) m more) in
@@ -341,5 +338,5 @@ pub record ReadsTo (r : Report) (xs : List (List ℕ)) : Type 0 where
 -- the text of a report is read whole, and leads to it
 pub text_reads : (text : List ℕ) (r : Report) → IsTextOf text r → ReadsTo r (lines text)
 text_reads text r is =
-    let run = report_reads r.header is.report_is.header r.records r.end is.report_is is.judged in
+    let run = report_reads r.header is.report_is.header r.records r.end is.report_is in
     subst (ReadsTo r) (sym (ap lines is.spelled ∙ lines_of_text (report_lines r) run.lacks)) record { last = _; reads = run.reads; ends = refl; report = refl }

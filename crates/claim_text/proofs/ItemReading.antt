@@ -15,7 +15,6 @@ use Rattle.claim_lines.specs.Items.{FitsClaim}
 use Rattle.claim_lines.proofs.DecidedClaims.{one_claim}
 use Rattle.claim_text.specs.declared.part.Part.{Part}
 use Rattle.claim_text.specs.declared.part.Item.TheVariants as item
-use Rattle.claim_text.specs.Judged.{IsJudgedHead}
 use Rattle.claim_text.specs.Part.{unclaimed, counts_of, with_item}
 use Rattle.claim_text.proofs.ObjectLists.{modules_count, maps_count}
 use Rattle.claim_text.specs.Steps.{Takes, TakesFirst, FitsItem, item_line, FitsModule, FitsMap, FitsHead, FitsKind, FitsLast}
@@ -56,14 +55,14 @@ module _ (p : Part) (ts : List (List ℕ)) where
 
   -- a claim that was read and may not stand here
   pub no_other_claim : (earlier modules maps line : ℕ) (x : Head) → modules ≡ (counts_of p).modules → maps ≡ (counts_of p).maps → earlier ≡ length p.records → modules < 2 ^ 32 → maps < 2 ^ 32
-      → FitsClaim earlier record { modules = modules; maps = maps } (line, x) → ts ≡ claim_line (earlier + 1) line x → (IsJudgedHead x × FitsKind p x → ⊥)
+      → FitsClaim earlier record { modules = modules; maps = maps } (line, x) → ts ≡ claim_line (earlier + 1) line x → (FitsKind p x → ⊥)
       → Reads (λ (y : ℕ × Head). FitsHead p y.0 y.1) (λ (y : ℕ × Head). claim_line (length p.records + 1) y.0 y.1) ts None
   no_other_claim earlier modules maps line x em en ee m n fits e bad y other_fits f =
       let here : FitsClaim (length p.records) (counts_of p) (line, x) =
       subst (λ k. FitsClaim k (counts_of p) (line, x)) ee (subst (λ k. FitsClaim earlier record { modules = k; maps = (counts_of p).maps } (line, x)) em (subst (λ k. FitsClaim earlier record { modules = modules; maps = k } (line, x)) en fits)) in
       let same : y ≡ (line, x) = one_claim (length p.records) (counts_of p) other_fits.few_modules other_fits.few_maps (length p.records + 1) y (line, x) other_fits.claim here
       (sym f ∙ (e ∙ ap (λ k. claim_line (k + 1) line x) ee)) in
-      bad (subst (λ (z : ℕ × Head). IsJudgedHead z.1 × FitsKind p z.1) same (other_fits.judged, other_fits.kind))
+      bad (subst (λ (z : ℕ × Head). FitsKind p z.1) same other_fits.kind)
 
 -- the objects of a claim's record have their numbers
 pub counted_modules : (p : Part) → (counts_of p).modules < 2 ^ 32 → length (modules_of p.records) + length p.modules < 2 ^ 32

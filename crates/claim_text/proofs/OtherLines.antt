@@ -37,7 +37,6 @@ use Rattle.claim_text.specs.declared.part.Owner.TheVariants as owner
 use Rattle.claim_text.specs.declared.part.Part.{Part}
 use Rattle.claim_text.specs.declared.part.Item.{Item}
 use Rattle.claim_text.specs.declared.part.Item.TheVariants as item
-use Rattle.claim_text.specs.Judged.{IsJudgedHead}
 use Rattle.claim_text.specs.Part.{here, counts_of, name_of, rows_of, columns_of}
 use Rattle.claim_text.specs.Steps.{FitsModule, FitsMap, FitsKind, FitsHead, FitsLast, FitsItem, item_line, FitsMatrix}
 
@@ -171,31 +170,16 @@ module _ (p : Part) (named : IsNamed p.front.header.quiver) (few : length p.fron
   kind_decided (head.Translate which a b c) = both (below 0 (length p.records)) (lines_decided p.front.header (here p) (head.Translate which a b c))
   kind_decided (head.AlmostSplit a e b f g c l) = both (below 0 (length p.records)) (lines_decided p.front.header (here p) (head.AlmostSplit a e b f g c l))
 
-  judged_decided : (x : Head) → Decided (IsJudgedHead x)
-  judged_decided head.Basis = inl tt
-  judged_decided (head.Module a) = inl tt
-  judged_decided (head.Map f) = inl tt
-  judged_decided (head.Kernel a f i) = inl tt
-  judged_decided (head.Cokernel a f i) = inl tt
-  judged_decided (head.Radical a b i) = inl tt
-  judged_decided (head.Decomposition a s f g parts) = inl tt
-  judged_decided (head.Hom a b count) = inl tt
-  judged_decided (head.Resolution a k) = inl tt
-  judged_decided (head.Ext k a b count c) = inl tt
-  judged_decided (head.Local a c) = inl tt
-  judged_decided (head.Translate which a b c) = inl tt
-  judged_decided (head.AlmostSplit a e b f g c l) = inl tt
-
   claim_item : (ts : List (List ℕ)) → Decided ((x : ℕ × Head) × (FitsHead p x.0 x.1 × (ts ≡ claim_line (length p.records + 1) x.0 x.1)))
   claim_item ts = by (both (below (counts_of p).modules (2 ^ 32)) (below (counts_of p).maps (2 ^ 32)))
     where
       by : Decided (((counts_of p).modules < 2 ^ 32) × ((counts_of p).maps < 2 ^ 32)) → Decided ((x : ℕ × Head) × (FitsHead p x.0 x.1 × (ts ≡ claim_line (length p.records + 1) x.0 x.1)))
       by (inr bad) = inr (λ g. bad (g.1.0.few_modules, g.1.0.few_maps))
       by (inl ok) =
-          like (λ g. (g.0, (record { few_modules = ok.0; few_maps = ok.1; claim = g.1.0; judged = g.1.1.0; kind = g.1.1.1 }, g.1.2))) (λ g. (g.0, (g.1.0.claim, (g.1.0.judged, g.1.0.kind), g.1.1)))
-          (narrowed (FitsClaim (length p.records) (counts_of p)) (λ (x : ℕ × Head). IsJudgedHead x.1 × FitsKind p x.1) (λ (x : ℕ × Head). claim_line (length p.records + 1) x.0 x.1) ts
+          like (λ g. (g.0, (record { few_modules = ok.0; few_maps = ok.1; claim = g.1.0; kind = g.1.1 }, g.1.2))) (λ g. (g.0, (g.1.0.claim, g.1.0.kind, g.1.1)))
+          (narrowed (FitsClaim (length p.records) (counts_of p)) (λ (x : ℕ × Head). FitsKind p x.1) (λ (x : ℕ × Head). claim_line (length p.records + 1) x.0 x.1) ts
           (one_claim (length p.records) (counts_of p) ok.0 ok.1 (length p.records + 1)) (claim_decided (length p.records) (counts_of p) ok.0 ok.1 (length p.records + 1) ts)
-          (λ x. both (judged_decided x.1) (kind_decided x.1)))
+          (λ x. kind_decided x.1))
 
   last_item : (ts : List (List ℕ)) → Decided ((x : End) × (FitsLast p x × (ts ≡ end_line h (length p.records) x)))
   last_item ts =

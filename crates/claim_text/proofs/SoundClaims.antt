@@ -20,7 +20,6 @@ use Rattle.claim_text.specs.declared.part.Part.{Part}
 use Rattle.claim_text.specs.Spelling.{head_of, claim_block}
 use Rattle.claim_text.specs.Part.{unclaimed, counts_of, claimed, with_head}
 use Rattle.claim_text.specs.Steps.{FitsHead}
-use Rattle.claim_text.specs.Judged.{IsJudged}
 use Rattle.claim_text.proofs.ObjectLists.{same_modules, same_maps, claim_earlier}
 use Rattle.claim_text.proofs.Reached.{Lines}
 use Rattle.claim_text.proofs.SoundObjects.{base_lines, Between, sound_claim, lines_claim}
@@ -48,14 +47,14 @@ module _ (p : Part) (line : ℕ) (c : Claim) where
         is_local = subst IsLocalClaim (sym (claim_earlier p.records record { line = line; modules = p.modules; maps = p.maps; claim = c } _ to)) (local i d l);
       }
 
-  pub sound_claimed : (ls : Lines) → Between p.front.header p.records p.modules p.maps ls → length p.records + 1 < 2 ^ 32 → IsJudged c → IsLine line → claim_block p.front.header c ≡ []
+  pub sound_claimed : (ls : Lines) → Between p.front.header p.records p.modules p.maps ls → length p.records + 1 < 2 ^ 32 → IsLine line → claim_block p.front.header c ≡ []
       → HasItsPlace all record { line = line; modules = p.modules; maps = p.maps; claim = c } c → IsClaimBlock p.front.header all c → Sound (claimed p line c) (ls ++ claim_line (length p.records + 1) line (head_of c) ∷ [])
   unfolding SoundAt
-  sound_claimed ls s room read is none place block =
+  sound_claimed ls s room is none place block =
       let h = p.front.header in
       let head' = claim_line (length p.records + 1) line (head_of c) in
       record {
-        base = sound_claim h p.records p.modules p.maps line c s.base room read is place block;
+        base = sound_claim h p.records p.modules p.maps line c s.base room is place block;
         lines = ap (λ l. l ++ head' ∷ []) s.lines
             ∙ (ap (λ l. base_lines h p.records p.modules p.maps ++ (head' ∷ l)) (sym none) ∙ lines_claim h p.records p.modules p.maps line c (length p.records + 1) refl);
       }
@@ -69,30 +68,30 @@ sound_head p ls line head.Basis s fits = absurd (no_first p s.base.some fits.kin
 sound_head p ls line (head.Module m) s fits =
     let c = claim.Module m in
     let f = fits.claim in
-    sound_claimed p line c ls s f.room fits.judged f.is_line refl (behind p line c s.base.some) (module_named p line c m f.numbers)
+    sound_claimed p line c ls s f.room f.is_line refl (behind p line c s.base.some) (module_named p line c m f.numbers)
 sound_head p ls line (head.Map m) s fits =
     let c = claim.Map m in
     let f = fits.claim in
-    sound_claimed p line c ls s f.room fits.judged f.is_line refl (behind p line c s.base.some) (map_named p line c m f.numbers)
+    sound_claimed p line c ls s f.room f.is_line refl (behind p line c s.base.some) (map_named p line c m f.numbers)
 sound_head p ls line (head.Kernel n g i) s fits =
     let c = claim.Kernel n g i in
     let f = fits.claim in
-    sound_claimed p line c ls s f.room fits.judged f.is_line refl (behind p line c s.base.some)
+    sound_claimed p line c ls s f.room f.is_line refl (behind p line c s.base.some)
     record { objects = record { is_module = module_named p line c n f.numbers.0; is_map = map_named p line c g f.numbers.1 }; is_map = map_named p line c i f.numbers.2 }
 sound_head p ls line (head.Cokernel n g i) s fits =
     let c = claim.Cokernel n g i in
     let f = fits.claim in
-    sound_claimed p line c ls s f.room fits.judged f.is_line refl (behind p line c s.base.some)
+    sound_claimed p line c ls s f.room f.is_line refl (behind p line c s.base.some)
     record { objects = record { is_module = module_named p line c n f.numbers.0; is_map = map_named p line c g f.numbers.1 }; is_map = map_named p line c i f.numbers.2 }
 sound_head p ls line (head.Radical n a i) s fits =
     let c = claim.Radical n a i in
     let f = fits.claim in
-    sound_claimed p line c ls s f.room fits.judged f.is_line refl (behind p line c s.base.some)
+    sound_claimed p line c ls s f.room f.is_line refl (behind p line c s.base.some)
     record { objects = record { is_module = module_named p line c n f.numbers.0; is_map = map_named p line c i f.numbers.2 }; is_module = module_named p line c a f.numbers.1 }
 sound_head p ls line (head.Decomposition a b g k parts) s fits =
     let c = claim.Decomposition a b g k parts in
     let f = fits.claim in
-    sound_claimed p line c ls s f.room fits.judged f.is_line refl (behind p line c s.base.some)
+    sound_claimed p line c ls s f.room f.is_line refl (behind p line c s.base.some)
     record {
       whole = record { is_module = module_named p line c a f.numbers.0; is_map = map_named p line c g f.numbers.2 };
       sum = record { is_module = module_named p line c b f.numbers.1; is_map = map_named p line c k f.numbers.3 };

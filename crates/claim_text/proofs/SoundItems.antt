@@ -1,6 +1,5 @@
 -- What stands between whole objects and claims, with the lines that were read.
 use Rattle.std.proofs.Common.{◌≡◌, ◌+◌, List, [], ◌∷◌, ◌++◌, length, sym, ap, ◌∙◌, subst, append-nil, lit<}
-use Rattle.std.proofs.lemmas.List.Elements.{All-nil}
 use Rattle.header_text.specs.Spelling.{header_lines}
 use Rattle.header_text.specs.Part.{MayEnd as HeaderMayEnd}
 use Rattle.header_text.proofs.FrontLemmas.{allowed_at_end, lines_at_end}
@@ -18,7 +17,6 @@ use Rattle.claim_text.specs.declared.part.Item.{Item}
 use Rattle.claim_text.specs.declared.part.Item.TheVariants as item
 use Rattle.claim_text.specs.Part.{here, rows_of, columns_of, with_item}
 use Rattle.claim_text.specs.Steps.{FitsItem, item_line}
-use Rattle.claim_text.specs.Judged.{IsJudged}
 use Rattle.claim_text.proofs.Reached.{Lines}
 use Rattle.claim_text.proofs.SoundObjects.{none_each, base_lines, Between, sound_end, lines_end}
 use Rattle.claim_text.proofs.SoundPlaces.{HeaderSound, Whole, SoundAt, Sound, no_first}
@@ -32,7 +30,6 @@ sound_last p ls e s no_module no_map fits =
     let whole : Between h p.records [] [] ls = subst (λ ms. Between h p.records ms [] ls) no_module (subst (λ fs. Between h p.records p.modules fs ls) no_map s) in
     record {
       is = sound_end h p.records e whole.base fits;
-      read = whole.base.read;
       lines = ap (λ l. l ++ end_line h (length p.records) e ∷ []) whole.lines ∙ lines_end h p.records e;
     }
 
@@ -75,7 +72,6 @@ sound_first p ls (item.End e) s ends fits =
     } in
     let whole : Whole (record p { place = place.Ended; records = []; end = e }) (ls ++ end_line h 0 e ∷ []) = record {
       is = report;
-      read = All-nil (λ (r : Record). IsJudged r.claim);
       lines = ap (λ l. l ++ end_line h 0 e ∷ []) (s.lines ∙ ap (λ l. title_line ∷ l) (lines_at_end p.front s.front ends));
     } in
     subst (λ (rs : List Record). Whole (record p { place = place.Ended; records = rs; end = e }) (ls ++ end_line h (length rs) e ∷ [])) (sym none) whole

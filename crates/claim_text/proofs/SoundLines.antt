@@ -15,7 +15,6 @@ use Rattle.claim_blocks.specs.Blocks.{FitsHead as FitsLines, begin_block, whole_
 use Rattle.claim_blocks.proofs.BlockLaws.{block_start, block_next, block_whole}
 use Rattle.claim_text.specs.declared.part.Place.TheVariants as place
 use Rattle.claim_text.specs.declared.part.Part.{Part}
-use Rattle.claim_text.specs.Judged.{IsJudgedHead}
 use Rattle.claim_text.specs.Part.{unclaimed, here, claimed, at_block, with_block}
 use Rattle.claim_text.specs.Steps.{FitsHead, TakesBlock}
 use Rattle.claim_blocks.proofs.Carried.{block_too}
@@ -51,7 +50,7 @@ whole_sound p b ls s e =
     let some = s.base.some in
     let w = block_whole h (here p) s.head b s.more (length p.records) s.so_far e (omega (arith, long')) s.first.numbers in
     record {
-      base = sound_claim h p.records p.modules p.maps p.line c s.base s.first.room (subst IsJudgedHead (sym w.first) s.judged) s.first.is_line
+      base = sound_claim h p.records p.modules p.maps p.line c s.base s.first.room s.first.is_line
           (has_place h (here p) all r c (subst (FitsLines h (here p)) (sym w.first) s.fits) (omega (arith, some, long)))
           (block_too h p.records (unclaimed p) r refl refl some c w.shapes);
       lines = s.lines
@@ -62,7 +61,7 @@ whole_sound p b ls s e =
 
 among_sound : (p : Part) (b : Block) (ls : Lines) → BlockSound p b ls → Sound (record p { place = place.Block; block = Some b }) ls
 unfolding SoundAt
-among_sound p b ls s = record { head = s.head; fits = s.fits; base = s.base; first = s.first; judged = s.judged; more = s.more; so_far = s.so_far; lines = s.lines }
+among_sound p b ls s = record { head = s.head; fits = s.fits; base = s.base; first = s.first; more = s.more; so_far = s.so_far; lines = s.lines }
 
 sound_at_block : (p : Part) (b : Block) (ls : Lines) → BlockSound p b ls → Sound (at_block p b) ls
 sound_at_block p b ls s = by (whole_block b) refl
@@ -81,7 +80,6 @@ sound_block p ls line x s fits kind =
       fits = kind;
       base = s.base;
       first = fits.claim;
-      judged = fits.judged;
       more = [];
       so_far = block_start p.front.header (here p) x kind;
       lines = ap (λ l. l ++ claim_line (length p.records + 1) line x ∷ []) s.lines;
@@ -99,7 +97,6 @@ sound_line p q (Some b) ls ts s t =
       fits = s.fits;
       base = s.base;
       first = s.first;
-      judged = s.judged;
       more = s.more ++ ts ∷ [];
       so_far = block_next p.front.header (here p) s.head b t.now ts s.more t.named s.so_far t.step;
       lines = ap (λ l. l ++ ts ∷ []) s.lines ∙ append_assoc front (claim_line (length p.records + 1) p.line s.head ∷ s.more) (ts ∷ []);

@@ -26,7 +26,6 @@ use Rattle.report_types.specs.Lawful.{IsModuleBlock, IsMapBlock, HasItsPlace, Ma
 use Rattle.claim_lines.specs.Items.{FitsEnd}
 use Rattle.claim_lines.specs.Spelling.{title_line, claim_line, end_line}
 use Rattle.claim_text.specs.Spelling.{at_arrows, at_vertices, module_lines, map_lines, head_of, claim_block, record_lines, records_lines, report_lines}
-use Rattle.claim_text.specs.Judged.{IsJudged}
 use Rattle.claim_text.proofs.ObjectLists.{map_block_same, same_modules, modules_count, maps_count, each_push}
 use Rattle.claim_text.proofs.Reached.{Lines}
 
@@ -78,7 +77,6 @@ pub record Base (h : Header) (rs : List Record) (ms : List Module) (fs : List Ma
   pub few_modules : length (modules_of rs) + length ms < 2 ^ 32
   pub few_maps : length (maps_of rs) + length fs < 2 ^ 32
   pub each : (k : ℕ) → MayBeRecord h (take k rs) (record_of rs k)
-  pub read : All (λ (r : Record). IsJudged r.claim) rs
   pub modules : All (IsModuleBlock h) ms
   pub maps : All (IsMapBlock h (with_modules rs ms)) fs
 
@@ -95,7 +93,6 @@ sound_module h rs ms fs m base none room is = record {
   few_modules = let long = length-pushed ms (ms ++ m ∷ []) m refl in omega (arith, room, long);
   few_maps = base.few_maps;
   each = base.each;
-  read = base.read;
   modules = All-push (IsModuleBlock h) ms m base.modules is;
   maps = subst (All (IsMapBlock h (with_modules rs (ms ++ m ∷ [])))) (sym none) (All-nil (IsMapBlock h (with_modules rs (ms ++ m ∷ []))));
 }
@@ -123,7 +120,6 @@ sound_map h rs ms fs f base room is = record {
   few_modules = base.few_modules;
   few_maps = let long = length-pushed fs (fs ++ f ∷ []) f refl in omega (arith, room, long);
   each = base.each;
-  read = base.read;
   modules = base.modules;
   maps = All-push (IsMapBlock h (with_modules rs ms)) fs f base.maps is;
 }
@@ -146,8 +142,8 @@ module _ (h : Header) (rs : List Record) (ms : List Module) (fs : List Map) (lin
   abbrev pub claimed_record : Record
   claimed_record = record { line = line; modules = ms; maps = fs; claim = c }
 
-  pub sound_claim : Base h rs ms fs → length rs + 1 < 2 ^ 32 → IsJudged c → IsLine line → HasItsPlace (rs ++ claimed_record ∷ []) claimed_record c → IsClaimBlock h (rs ++ claimed_record ∷ []) c → Base h (rs ++ claimed_record ∷ []) [] []
-  sound_claim base room read is place block =
+  pub sound_claim : Base h rs ms fs → length rs + 1 < 2 ^ 32 → IsLine line → HasItsPlace (rs ++ claimed_record ∷ []) claimed_record c → IsClaimBlock h (rs ++ claimed_record ∷ []) c → Base h (rs ++ claimed_record ∷ []) [] []
+  sound_claim base room is place block =
       let r = claimed_record in
       let long = length-pushed rs (rs ++ r ∷ []) r refl in
       record {
@@ -163,7 +159,6 @@ module _ (h : Header) (rs : List Record) (ms : List Module) (fs : List Map) (lin
           place = place;
           claim = block;
         };
-        read = All-push (λ (x : Record). IsJudged x.claim) rs r base.read read;
         modules = All-nil (IsModuleBlock h);
         maps = All-nil (IsMapBlock h (with_modules (rs ++ r ∷ []) []));
       }
@@ -208,7 +203,6 @@ sound_basis h line words steps rules ok is block =
         place = (refl, refl, refl);
         claim = block;
       };
-      read = All-push (λ (x : Record). IsJudged x.claim) [] r (All-nil (λ (x : Record). IsJudged x.claim)) tt;
       modules = All-nil (IsModuleBlock h);
       maps = All-nil (IsMapBlock h (with_modules (r ∷ []) []));
     }

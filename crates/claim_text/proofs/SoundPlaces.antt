@@ -1,11 +1,10 @@
 -- What holds of what has been read of a report and of the lines that were read, place by place.
 use Rattle.std.proofs.Common.{◌≡◌, ℕ, ◌+◌, ◌<◌, List, [], ◌∷◌, ◌++◌, length, decimal, ap, ◌∙◌, arith}
-use Rattle.std.specs.Prelude.{All, Option, None, Some}
+use Rattle.std.specs.Prelude.{Option, None, Some}
 use Rattle.path_algebra.specs.Allowed.{IsAllowed}
 use Rattle.header_text.specs.Part.{IsFront, part_lines}
 use Rattle.module_types.specs.Shapes.{AreMatrices}
 use Rattle.object_lines.specs.Spelling.{at_lines}
-use Rattle.report_types.specs.declared.claims.Record.{Record}
 use Rattle.report_types.specs.Limits.{IsLine}
 use Rattle.report_types.specs.Lawful.{IsReport}
 use Rattle.claim_lines.specs.declared.heads.Head.{Head}
@@ -24,7 +23,6 @@ use Rattle.claim_text.specs.declared.part.Item.TheVariants as item
 use Rattle.claim_text.specs.Spelling.{report_lines}
 use Rattle.claim_text.specs.Part.{start, report_of, here, counts_of, name_of, rows_of, columns_of}
 use Rattle.claim_text.specs.Steps.{FitsModule, FitsMap, item_line}
-use Rattle.claim_text.specs.Judged.{IsJudgedHead, IsJudged}
 use Rattle.claim_text.proofs.Reached.{Lines, head_lines, WordsSound, StepsSound, RulesSound}
 use Rattle.claim_text.proofs.SoundObjects.{base_lines, Base, Between}
 
@@ -97,7 +95,6 @@ pub record BlockSound (p : Part) (b : Block) (ls : Lines) : Type 0 where
   pub fits : FitsLines p.front.header (here p) head
   pub base : Base p.front.header p.records p.modules p.maps
   pub first : FitsClaim (length p.records) (counts_of p) (p.line, head)
-  pub judged : IsJudgedHead head
   pub more : Lines
   pub so_far : IsSoFar p.front.header (here p) head b more
   pub lines : ls ≡ base_lines p.front.header p.records p.modules p.maps ++ claim_line (length p.records + 1) p.line head ∷ more
@@ -108,7 +105,6 @@ AmongLines p (Some b) ls = BlockSound p b ls
 
 pub record Whole (p : Part) (ls : Lines) : Type 0 where
   pub is : IsReport (report_of p)
-  pub read : All (λ (r : Record). IsJudged r.claim) p.records
   pub lines : ls ≡ report_lines (report_of p)
 
 unfoldable pub SoundAt : Place → Part → Lines → Type 0

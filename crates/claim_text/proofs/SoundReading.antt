@@ -224,6 +224,5 @@ read_is_report text q whole =
     let last : Whole q all.more = subst (λ w. SoundAt w q all.more) whole.ends all.sound in
     record {
       report_is = last.is;
-      judged = last.read;
       spelled = sym (concat-lines text) ∙ (ap concat all.spelled ∙ ap text_of last.lines);
     }

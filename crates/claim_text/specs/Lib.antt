@@ -1,6 +1,5 @@
 pub mod Matrices
 pub mod Spelling
-pub mod Judged
 pub mod Part
 pub mod Steps
 pub mod Texts

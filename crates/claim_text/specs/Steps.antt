@@ -29,7 +29,6 @@ use Rattle.claim_text.specs.declared.part.Place.TheVariants as place
 use Rattle.claim_text.specs.declared.part.Part.{Part}
 use Rattle.claim_text.specs.declared.part.Item.{Item}
 use Rattle.claim_text.specs.declared.part.Item.TheVariants as item
-use Rattle.claim_text.specs.Judged.{IsJudgedHead}
 use Rattle.claim_text.specs.Part.{here, counts_of, at_block, with_title, with_word_count, with_word, with_step_count, with_step, with_rule_count, with_rule, name_of, rows_of, columns_of, with_matrix, with_item}
 
 -- the tokens are those of the title
@@ -81,7 +80,6 @@ pub record FitsHead (p : Part) (line : ℕ) (x : Head) : Type 0 where
   pub few_modules : (counts_of p).modules < 2 ^ 32
   pub few_maps : (counts_of p).maps < 2 ^ 32
   pub claim : FitsClaim (length p.records) (counts_of p) (line, x)
-  pub judged : IsJudgedHead x
   pub kind : FitsKind p x
 
 -- the last line: directly behind a whole record, or behind the header

@@ -1,19 +1,16 @@
 -- Reports as texts.
-use Rattle.std.specs.Prelude.{ℕ, ◌≡◌, List, All}
+use Rattle.std.specs.Prelude.{ℕ, ◌≡◌, List}
 use Rattle.text_lines.specs.Lines.{lines}
 use Rattle.text_lines.specs.Reading.{IsFirstBad}
-use Rattle.report_types.specs.declared.claims.Record.{Record}
 use Rattle.report_types.specs.declared.reports.Report.{Report}
 use Rattle.report_types.specs.Lawful.{IsReport}
 use Rattle.claim_text.specs.Spelling.{report_text}
 use Rattle.claim_text.specs.Part.{start}
 use Rattle.claim_text.specs.Steps.{Step, MayEnd}
-use Rattle.claim_text.specs.Judged.{IsJudged}
 
--- the text is the spelling of this report, whose claims are of kinds that can be judged
+-- the text is the spelling of this report
 pub record IsTextOf (text : List ℕ) (report : Report) : Type 0 where
   pub report_is : IsReport report
-  pub judged : All (λ (r : Record). IsJudged r.claim) report.records
   pub spelled : text ≡ report_text report
 
 -- Line k, counted from 1, is the first bad line of the text: it may not follow the lines before it. Where the text ends too

@@ -11,7 +11,6 @@ ghost use Rattle.report_types.specs.Numbers.{claim_of};
 ghost use Rattle.claim_lines.specs.declared.heads.Head.{Head as HeadView};
 ghost use Rattle.claim_lines.specs.Spelling.{claim_line, end_line};
 ghost use Rattle.claim_text.specs.declared.part.Part.{Part};
-ghost use Rattle.claim_text.specs.Judged.{IsJudgedHead};
 ghost use Rattle.claim_blocks.specs.Blocks.{FitsHead as FitsLines};
 ghost use Rattle.claim_text.specs.Part.{here, counts_of, fill, line_claim, IsOnSubmodule, with_head, with_item};
 ghost use Rattle.claim_text.specs.Steps.{Takes, FitsItem, item_line, FitsModule, FitsMap, FitsHead, FitsKind, FitsLast};
@@ -35,27 +34,6 @@ fn begins_with(line: &[u8], word: &[u8]) -> bool
     };
     let mut tokens = tokens;
     tokens.take_word(word)
-}
-
-/// Whether claims of this kind are judged.
-fn is_judged(head: &Head) -> bool
-    ensures { IsTrue result ↔ IsJudgedHead head.now }
-{
-    match head {
-        Head::Basis => true,
-        Head::Module { .. } => true,
-        Head::Map { .. } => true,
-        Head::Hom { .. } => true,
-        Head::Kernel { .. } => true,
-        Head::Cokernel { .. } => true,
-        Head::Radical { .. } => true,
-        Head::Resolution { .. } => true,
-        Head::Ext { .. } => true,
-        Head::Local { .. } => true,
-        Head::Decomposition { .. } => true,
-        Head::Translate { .. } => true,
-        Head::AlmostSplit { .. } => true,
-    }
 }
 
 /// The claim of a kernel, a cokernel or a radical, which its first line says whole.
@@ -228,16 +206,6 @@ impl Part {
         }
     }
 
-    /// Whether a claim that its first line spells may stand here.
-    fn may_claim(&self, alloc: Global, head: &Head) -> Result<bool, AllocError>
-        ensures { IfOk result (λ b. IsTrue b ↔ (IsJudgedHead head.now × FitsKind self.now head.now)) }
-    {
-        if !is_judged(head) {
-            return Ok(false);
-        }
-        self.has_its_place(alloc, head)
-    }
-
     /// Reads the first line of a claim.
     fn read_claim_line(
         &self,
@@ -260,7 +228,7 @@ impl Part {
         let Some((line, head)) = read_head(alloc, earlier as u32, counts, tokens)? else {
             return Ok(None);
         };
-        let stands = self.may_claim(alloc, &head)?;
+        let stands = self.has_its_place(alloc, &head)?;
         if !stands {
             return Ok(None);
         }

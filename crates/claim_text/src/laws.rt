@@ -1,10 +1,8 @@
 //! Laws of reports as texts. The first two functions do nothing: their contracts are laws.
-ghost use Rattle.std.specs.Prelude.{ℕ, ◌≡◌, ◌≤◌, ◌⊎◌, ◌++◌, List, All, length, IfOk, IfErr};
-ghost use Rattle.report_types.specs.declared.claims.Record.{Record};
+ghost use Rattle.std.specs.Prelude.{ℕ, ◌≡◌, ◌≤◌, ◌⊎◌, ◌++◌, List, length, IfOk, IfErr};
 ghost use Rattle.report_types.specs.declared.reports.Report.{Report};
 ghost use Rattle.report_types.specs.Lawful.{IsReport};
 ghost use Rattle.claim_text.specs.declared.reader.ReadTextError.TheVariants.{NoMemory};
-ghost use Rattle.claim_text.specs.Judged.{IsJudged};
 ghost use Rattle.claim_text.specs.Spelling.{report_text, front_text, records_text, end_text};
 ghost use Rattle.claim_text.specs.Texts.{IsTextOf, IsBadLine};
 
@@ -26,11 +24,10 @@ pub fn texts_are_in_pieces()
     ensures { (r : Report) → report_text r ≡ front_text r ++ (records_text r.header 0 0 0 r.records ++ end_text r) }
 {}
 
-/// What is read of the text that is written of a report is that report, where its claims are of kinds that are judged and its text is within the limit.
+/// What is read of the text that is written of a report is that report, where its text is within the limit.
 /// No line of it is bad.
 pub fn read_written(alloc: Global, report: &Report) -> Result<Report, ReadTextError>
     requires is { IsReport report.now }
-    requires judged { All (λ (r : Record). IsJudged r.claim) report.now.records }
     requires short { length (report_text report.now) ≤ 67108864 }
     ensures same { IfOk result (λ again. again ≡ report.now) }
     ensures memory { IfErr result (λ e. e ≡ NoMemory) }
