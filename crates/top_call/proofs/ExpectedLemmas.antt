@@ -19,7 +19,6 @@ use Rattle.script_types.specs.declared.Script.{Script}
 use Rattle.script_lang.specs.Scripts.{IsScript}
 use Rattle.script_lang.proofs.ScriptLaws.{one_script, script_not_bad}
 use Rattle.script_run.specs.Runs.{IsRightReport}
-use Rattle.top_call.proofs.RunLemmas.{all_judged}
 use Rattle.top_call.specs.declared.outcome.Outcome.{Outcome}
 use Rattle.top_call.specs.declared.outcome.Outcome.TheVariants.{Done, Refused, Rejected, BadText, TooLong, Usage, ReadFault, WriteFault, NoMemory}
 use Rattle.top_call.specs.declared.modes.Mode.{Mode}
@@ -123,7 +122,7 @@ module _ (words : List (List ℕ)) (left left' taken taken' : Option (List ℕ))
 
 -- what `run` writes with Done is accepted
 pub accepted : (input text : List ℕ) → Answers Run Done input text → IsGood Check text
-accepted input text a = record { report = a.report; reads = record { report_is = a.right.lawful; judged = all_judged a.report.records; spelled = a.spelled }; conditions = a.right.conditions }
+accepted input text a = record { report = a.report; reads = record { report_is = a.right.lawful; spelled = a.spelled }; conditions = a.right.conditions }
 
 -- a script without statements, with few paths below its bound
 done_differs : (line : ℕ) (why : Why) → end.Done ≡ end.Refused line why → ⊥
