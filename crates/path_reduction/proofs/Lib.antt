@@ -1,6 +1,7 @@
 pub mod Extended
 pub mod Sides
 pub mod TermSums
+pub mod TipLengths
 pub mod TipStands
 pub mod Deriving
 pub mod PathPlaces

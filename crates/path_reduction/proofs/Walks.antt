@@ -5,7 +5,6 @@ use Rattle.std.proofs.lemmas.Nat.{row_fits}
 use Rattle.std.proofs.lemmas.List.{append-nil, take_at, take-append-drop, drop_more, get_or_read}
 use Rattle.quiver_paths.specs.declared.Path.{Path}
 use Rattle.path_algebra.specs.Rows.{path_at}
-use Rattle.quiver_paths.specs.Path.{trivial_path}
 use Rattle.path_reduction.proofs.PathPlaces.{path_at-read}
 use Rattle.path_reduction.specs.ShortPaths.{IsWalked, IsAlong, StartsAt, HoldsPaths}
 

@@ -1,5 +1,4 @@
-use Rattle.std.proofs.Common.{◌≡◌, ◌<◌, ◌≤◌, ◌++◌, length, arith}
-use Rattle.path_reduction.specs.ShortPaths.{StartsAt}
+use Rattle.std.proofs.Common.{◌++◌, arith}
 use Rattle.path_reduction.proofs.Walks.{vertex_starts, along_apart, along_outside, along_stuck, along_some, along_none}
 use Rattle.path_reduction.proofs.short_paths.ShortPaths.place_along.Goals as goal
 
