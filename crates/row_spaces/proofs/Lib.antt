@@ -5,6 +5,7 @@ pub mod FunctionalRows
 pub mod LastRows
 pub mod OrthogonalForms
 pub mod OrthogonalRows
+pub mod PlaceRows
 pub mod PushedRows
 pub mod ReducedForms
 pub mod UnitColumns

@@ -19,3 +19,7 @@ pub record HasLeading (rows : List (List ℕ)) (k : ℕ) (places : List ℕ) : T
 -- the entry of row r at place j of a list
 abbrev pub picked_entry : List (List ℕ) → List ℕ → ℕ → ℕ → ℕ
 picked_entry rows places r j = entry rows r (slice_index places j)
+
+-- the entry in column j of the row with the number at place r of a list
+abbrev pub chosen_entry : List (List ℕ) → List ℕ → ℕ → ℕ → ℕ
+chosen_entry rows places r j = entry rows (slice_index places r) j

@@ -44,3 +44,8 @@ pub record AreCoordinates {q : Gf} {k m n : ℕ} (basis : Mat q m n) (y : Mat q 
 pub record HasPlaces (m : PlainMatrix) (k : ℕ) (places : List ℕ) : Type 0 where
   pub count : length places ≡ k
   pub at : (place : ℕ → ℕ) → IsCoReduced (typed m) place → (j : ℕ) → j < k → slice_index places j ≡ place j
+
+-- The matrix c after the projection `onto` is y, and no other is.
+pub record IsFactor {q : Gf} {k m n : ℕ} (onto : Mat q n m) (y : Mat q n k) (c : Mat q m k) : Type 0 where
+  pub compose : onto · c ≡ y
+  pub once : (d : Mat q m k) → onto · d ≡ y → d ≡ c

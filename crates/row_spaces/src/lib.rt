@@ -3,6 +3,7 @@
 
 mod coefficients;
 mod columns;
+mod factoring;
 mod forms;
 mod kernels;
 pub mod laws;
@@ -11,6 +12,7 @@ mod quotients;
 
 pub use coefficients::{coordinates, coordinates_of_rows, pivots};
 pub use columns::free_columns;
+pub use factoring::factor_through;
 pub use forms::reduced_rows;
 pub use kernels::{annihilator, left_kernel};
 pub use quotients::{places, quotient_projection};
