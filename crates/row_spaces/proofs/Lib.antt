@@ -1,0 +1,11 @@
+pub mod PivotEntries
+pub mod FreeColumns
+pub mod FormsOnce
+pub mod FunctionalRows
+pub mod LastRows
+pub mod OrthogonalForms
+pub mod OrthogonalRows
+pub mod PlaceRows
+pub mod PushedRows
+pub mod ReducedForms
+pub mod UnitColumns

@@ -1,0 +1,3 @@
+pub mod FreeColumns
+pub mod PushedRows
+pub mod RowSpaces
