@@ -1,0 +1,4 @@
+pub mod Levels
+pub mod MapFaults
+pub mod ModuleFaults
+pub mod PathActions
