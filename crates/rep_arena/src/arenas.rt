@@ -67,12 +67,8 @@ impl<'s, 'c> Arena<'s, 'c> {
         ensures refused { OnErr result (self.new ≡ self.old) }
     {
         check_module(self.alloc, table.header(), &m)?;
-        let stored = store_module(self.command, &m)?;
-        push(&mut self.modules, stored)?;
-        let number = self.old_modules.len() + self.modules.len();
-        Ok(RepId {
-            number: number as u32,
-        })
+        let id = self.put_module(m)?;
+        Ok(id)
     }
 
     /// Adds a map behind the others, or says why not; the modules that it goes from and to stand. After a refusal the lists are as before.
@@ -92,6 +88,33 @@ impl<'s, 'c> Arena<'s, 'c> {
             .module(RepId { number: f.target })
             .to_module(self.alloc)?;
         check_map(&self.header, &source, &target, &f.matrices)?;
+        let id = self.put_map(f)?;
+        Ok(id)
+    }
+
+    /// Adds a module that is known to be one over the header, of at most the largest dimension; it is not tested. Where there is no memory the lists are as
+    /// before.
+    pub fn put_module(&mut self, m: Module) -> Result<RepId, AllocError>
+        requires lawful { IsSmallModule self.old.header m }
+        requires room { length self.old.modules < 2 ^ 32 - 2 }
+        ensures added { IfOk result (λ id. (self.new ≡ with_module self.old m) × (id.number ≡ length self.new.modules)) }
+        ensures refused { OnErr result (self.new ≡ self.old) }
+    {
+        let stored = store_module(self.command, &m)?;
+        push(&mut self.modules, stored)?;
+        let number = self.old_modules.len() + self.modules.len();
+        Ok(RepId {
+            number: number as u32,
+        })
+    }
+
+    /// Adds a map that is known to be a homomorphism between modules that stand; it is not tested. Where there is no memory the lists are as before.
+    pub fn put_map(&mut self, f: Map) -> Result<MapId, AllocError>
+        requires lawful { IsMapAmong self.old f }
+        requires room { length self.old.maps < 2 ^ 32 - 2 }
+        ensures added { IfOk result (λ id. (self.new ≡ with_map self.old f) × (id.number ≡ length self.new.maps)) }
+        ensures refused { OnErr result (self.new ≡ self.old) }
+    {
         let stored = store_map(self.command, &f)?;
         push(&mut self.maps, stored)?;
         let number = self.old_maps.len() + self.maps.len();

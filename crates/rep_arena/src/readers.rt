@@ -1,5 +1,5 @@
 //! Reading entries. No call takes memory.
-ghost use Rattle.std.specs.Prelude.{◌≡◌, ◌<◌, slice_index, slice_index_or, []};
+ghost use Rattle.std.specs.Prelude.{◌≡◌, ◌<◌, length, slice_index, slice_index_or, []};
 ghost use Rattle.linear_algebra.specs.Rows.{IsRow};
 ghost use Rattle.quiver_paths.specs.Quiver.{vertex_count, arrow_count};
 ghost use Rattle.module_types.specs.Readings.{rows_at};
@@ -12,6 +12,20 @@ use crate::views::{MapRef, ModuleRef};
 use module_types::Side;
 
 impl<'s, 'c> Arena<'s, 'c> {
+    /// How many modules there are.
+    pub fn module_count(&self) -> u32
+        ensures { result ≡ length self.now.modules }
+    {
+        self.mark().modules
+    }
+
+    /// How many maps there are.
+    pub fn map_count(&self) -> u32
+        ensures { result ≡ length self.now.maps }
+    {
+        self.mark().maps
+    }
+
     /// The module with this number.
     pub fn module(&self, id: RepId) -> ModuleRef<'_>
         requires { NamesModule self.now id.number }

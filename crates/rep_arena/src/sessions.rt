@@ -1,8 +1,10 @@
 //! What stays from command to command.
-ghost use Rattle.std.specs.Prelude.{◌≡◌, IfOk};
-ghost use Rattle.rep_arena.specs.Entries.{no_entries};
+ghost use Rattle.std.specs.Prelude.{◌≡◌, length, IfOk};
+ghost use Rattle.module_faults.specs.ModuleFaults.{IsSmallModule};
+ghost use Rattle.rep_arena.specs.Entries.{AreLawful, no_entries, NamesModule, NamesMap, module_at, map_at, IsMapAmong};
 
 use crate::arenas::Arena;
+use crate::marks::{MapId, RepId};
 use crate::views::{MapRef, ModuleRef};
 use alg_table::Table;
 use bumpalo::Bump;
@@ -59,5 +61,45 @@ impl<'s> Session<'s> {
             modules: Vec::new(self.alloc),
             maps: Vec::new(self.alloc),
         }
+    }
+
+    /// The header that the entries are over.
+    pub fn header(&self) -> &Header
+        ensures header { result.now ≡ self.now.header }
+        ensures lawful { AreLawful self.now }
+    {
+        &self.header
+    }
+
+    /// How many modules there are.
+    pub fn module_count(&self) -> u32
+        ensures { result ≡ length self.now.modules }
+    {
+        self.modules.len() as u32
+    }
+
+    /// How many maps there are.
+    pub fn map_count(&self) -> u32
+        ensures { result ≡ length self.now.maps }
+    {
+        self.maps.len() as u32
+    }
+
+    /// The module with this number.
+    pub fn module(&self, id: RepId) -> ModuleRef<'_>
+        requires { NamesModule self.now id.number }
+        ensures entry { result ≡ module_at self.now id.number }
+        ensures lawful { IsSmallModule self.now.header result }
+    {
+        self.modules[id.number as usize - 1].shorter()
+    }
+
+    /// The map with this number.
+    pub fn map(&self, id: MapId) -> MapRef<'_>
+        requires { NamesMap self.now id.number }
+        ensures entry { result ≡ map_at self.now id.number }
+        ensures lawful { IsMapAmong self.now result }
+    {
+        self.maps[id.number as usize - 1].shorter()
     }
 }
