@@ -21,10 +21,10 @@ use Rattle.module_checks.specs.Commuting.{AsksMore}
 use Rattle.module_checks.specs.Meeting.{AllMeet}
 use Rattle.module_checks.specs.PathImages.{arrow_dot, ImagesMet, MeetsAt}
 use Rattle.module_checks.proofs.HomRank.{IsPlainOf}
-use Rattle.module_checks.proofs.PathImages.{image_of_arrow}
 use Rattle.module_checks.proofs.SpreadDots.{dot_clear}
 use Rattle.module_faults.specs.Levels.{TakeToZero, IsLevel, AskImage, IsStoppedAt}
 use Rattle.module_faults.proofs.Stopping.{AreStopped, behind_of_ends, ends_of_behind, stopped_by, by_stopped}
+use Rattle.module_faults.proofs.PlacedColumns.{image_of_arrow}
 use Rattle.module_faults.proofs.PrefixRows.{HoldPrefix}
 
 -- What is folded into clear rows is what they ask then.

@@ -16,6 +16,7 @@ mod modules;
 mod next_arrows;
 mod relations;
 mod shapes;
+mod short_relations;
 
 pub use long_paths::first_long_path;
 pub use maps::check_map;
