@@ -1,5 +1,5 @@
 -- A relation acts as zero on a module where the shortened one does, and it does where it has no short term.
-use Rattle.std.proofs.Common.{ℕ, ◌≡◌, ◌<◌, List, [], length, refl, sym, ap, ◌∙◌, subst, arith, if◌then◌else◌, ltb}
+use Rattle.std.proofs.Common.{ℕ, ◌≡◌, ◌<◌, [], length, refl, sym, ap, ◌∙◌, subst, arith, if◌then◌else◌, ltb}
 use Rattle.std.specs.Prelude.{slice_index_or}
 use Rattle.std.proofs.lemmas.List.{get_or_default}
 use Rattle.linear_algebra.specs.Field.{mul}
@@ -7,7 +7,6 @@ use Rattle.linear_algebra.specs.Matrix.{Mat, zeros}
 use Rattle.linear_algebra.proofs.MatrixLaws.{transpose-at}
 use Rattle.quiver_paths.specs.declared.Path.{Path}
 use Rattle.quiver_paths.specs.Path.{path_length}
-use Rattle.path_algebra.specs.declared.Term.{Term}
 use Rattle.path_algebra.specs.declared.Relation.{Relation}
 use Rattle.path_algebra.specs.declared.Header.{Header}
 use Rattle.path_algebra.specs.Allowed.{IsAllowed}
@@ -27,7 +26,7 @@ use Rattle.module_types.specs.Algebras.{algebra_at}
 use Rattle.module_types.specs.Readings.{rep_of}
 use Rattle.module_types.specs.Shapes.{IsModule}
 use Rattle.module_checks.specs.RowWalks.{ActsAsZero}
-use Rattle.module_faults.specs.ShortRelations.{is_short, short_terms, kept_relation, short_header}
+use Rattle.module_faults.specs.ShortRelations.{is_short, short_terms, short_header}
 use Rattle.module_faults.specs.RelationActions.{short_entry, IsZeroOver, RelationIsZero, IsRelationZero}
 use Rattle.module_faults.proofs.ShortRelations.{sum_over-filter, terms_kept, short_allowed, short_count, short_at}
 use Rattle.module_faults.proofs.RelationValues.{AreTermsZero, terms_of_value, value_of_terms, dual_of_left_value, left_of_dual_value}

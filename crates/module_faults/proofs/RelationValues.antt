@@ -1,5 +1,5 @@
 -- The matrix of a relation of an allowed header is zero where the sum of its terms is, from each vertex to each.
-use Rattle.std.proofs.Common.{ℕ, zero, ◌≡◌, ◌<◌, inl, inr, List, [], length, refl, sym, ap, ap₂, ◌∙◌, subst, arith}
+use Rattle.std.proofs.Common.{ℕ, zero, ◌≡◌, ◌<◌, inl, inr, List, length, sym, ap, ap₂, ◌∙◌, subst}
 use Rattle.std.specs.Prelude.{Contains}
 use Rattle.std.proofs.lemmas.Bool.{cases_eq}
 use Rattle.std.proofs.lemmas.List.Elements.{All-contains, Contains-get_or}
@@ -7,10 +7,9 @@ use Rattle.linear_algebra.specs.Field.{Gf, mul}
 use Rattle.linear_algebra.specs.FieldLaws.{mul_zero}
 use Rattle.linear_algebra.specs.Sums.{sum_to, sum-same}
 use Rattle.linear_algebra.specs.Matrix.{Mat, Mat-eq_below, zeros, transpose}
-use Rattle.linear_algebra.specs.Families.{combine}
 use Rattle.linear_algebra.proofs.LinearMaps.{combine-at}
 use Rattle.linear_algebra.proofs.MatrixLaws.{transpose_transpose, transpose_zeros}
-use Rattle.quiver_paths.specs.Path.{IsPath, trivial_path}
+use Rattle.quiver_paths.specs.Path.{IsPath}
 use Rattle.path_algebra.specs.declared.Term.{Term}
 use Rattle.path_algebra.specs.declared.Relation.{Relation}
 use Rattle.path_algebra.specs.declared.Header.{Header}

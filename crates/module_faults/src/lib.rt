@@ -18,6 +18,7 @@ mod relations;
 mod shapes;
 mod short_relations;
 
+pub use duals::dual_module;
 pub use long_paths::first_long_path;
 pub use maps::check_map;
 pub use modules::check_module;

@@ -30,11 +30,7 @@ fn put_short(term: Term, bound: u32, short: &mut Vec<Term>) -> Result<(), AllocE
 }
 
 /// The terms of a relation that are shorter than the bound.
-fn short_terms(
-    alloc: Global,
-    relation: &Relation,
-    bound: u32,
-) -> Result<Vec<Term>, AllocError>
+fn short_terms(alloc: Global, relation: &Relation, bound: u32) -> Result<Vec<Term>, AllocError>
     ensures { IfOk result (λ short. short.items ≡ short_terms bound relation.now.terms) }
 {
     let copy = relation.clone()?;
