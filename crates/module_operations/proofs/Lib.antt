@@ -1,0 +1,14 @@
+pub mod ListedMatrices
+pub mod Restrictions
+pub mod Inductions
+pub mod ArrowMatrices
+pub mod Counts
+pub mod OnSpaces
+pub mod OnQuotients
+pub mod VertexForms
+pub mod FormSpaces
+pub mod ComputedSubmodules
+pub mod ProjectionSpaces
+pub mod ComputedQuotients
+pub mod SmallMaps
+pub mod ArrowSpanSteps

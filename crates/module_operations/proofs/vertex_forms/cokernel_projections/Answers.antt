@@ -1,0 +1,26 @@
+use Rattle.std.proofs.Common.{ℕ, ◌≡◌, ◌∙◌, sym, ap, arith}
+use Rattle.std.specs.Prelude.{slice_index_or}
+use Rattle.fp_linear.specs.Matrix.{PlainMatrix}
+use Rattle.module_types.specs.Readings.{family_of}
+use Rattle.module_operations.proofs.VertexForms.{narrow_square, quotient_form, HaveProjections-more}
+use Rattle.module_operations.proofs.vertex_forms.cokernel_projections.Goals as goal
+
+pub loop-v-preserved : goal.loop-v-preserved
+loop-v-preserved c = λ q Q X Y M.
+    let f = c.args.f.now in
+    let copy : c.in_ok-clone.field-0 ≡ slice_index_or f c.loop-v.v c.in_ok-clone.field-0 = c.in_ok-clone.ensures.cases ∙ c.index.ensures ∙ ap (slice_index_or f c.loop-v.v) (sym c.in_ok-clone.ensures.cases) in
+    rw c.in_ok-push.ensures.items
+    (HaveProjections-more Y X.dim (family_of X Y f) c.loop-v.v c.in_ok-projection.projection c.loop-v.projections.items
+    (quotient_form X Y f M c.loop-v.v (omega (arith, c.loop-v-test.true, c.len-v-end.ensures)) c.in_ok-clone.field-0 c.in_ok-projection.projection copy c.in_ok-projection.ensures.matrix c.in_ok-projection.ensures.shape c.in_ok-projection.ensures.quotient)
+    (c.loop-v.invariant q Q X Y M))
+
+pub returns : goal.returns
+returns c = λ q Q X Y M.
+    let end : c.loop-v.v ≡ Q.vertices = omega (arith, c.loop-v-test.false, c.loop-v.auto.v-end, c.len-v-end.ensures, M.counted) in
+    rw c.from_vec.ensures (rw end at (c.loop-v.invariant q Q X Y M))
+
+pub quotient_projection-requires : goal.quotient_projection-requires
+quotient_projection-requires c =
+    let f = c.args.f.now in
+    let copy : c.in_ok-clone.field-0 ≡ slice_index_or f c.loop-v.v c.in_ok-clone.field-0 = c.in_ok-clone.ensures.cases ∙ c.index.ensures ∙ ap (slice_index_or f c.loop-v.v) (sym c.in_ok-clone.ensures.cases) in
+    narrow_square f c.loop-v.v c.in_ok-clone.field-0 c.requires (omega (arith, c.loop-v-test.true, c.len-v-end.ensures)) copy

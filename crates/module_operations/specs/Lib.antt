@@ -1,0 +1,5 @@
+pub mod ArrowSpans
+pub mod Computed
+pub mod Images
+pub mod Summands
+pub mod VertexSpaces

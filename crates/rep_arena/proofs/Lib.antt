@@ -1,0 +1,6 @@
+pub mod Cutting
+pub mod EntryRows
+pub mod Lawful
+pub mod Numbered
+pub mod Rows
+pub mod Stored
