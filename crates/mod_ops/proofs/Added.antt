@@ -104,6 +104,9 @@ total_front f k (suc n) l = elim (cases_lt k (suc n)) [
   | inr o ↦ let e : k ≡ suc n = omega arith in subst (λ (k : ℕ). total k f ≤ total (suc n) f) (sym e) (omega arith)
 ]
 
+pub total_step : (f : ℕ → ℕ) (k n : ℕ) → k < n → total k f + f k ≤ total n f
+total_step f k n l = total_front f (suc k) n (omega arith)
+
 -- The dual and the sum that are computed.
 pub dual_lawful : (h : Header) (a whole d : Module) → whole ≡ a → IsSmallModule h a → ((q : Gf) (Q : Quiver) → IsModule q Q whole → d ≡ dual_of q Q whole) → IsSmallModule h d
 dual_lawful h a whole d e s known =

@@ -56,11 +56,7 @@ pub(crate) fn add_projection(
 }
 
 /// Adds a module and then a map. Where there is no memory for both neither is added.
-fn add_both(
-    arena: &mut Arena<'_, '_>,
-    m: Module,
-    f: Map,
-) -> Result<(RepId, MapId), AllocError>
+fn add_both(arena: &mut Arena<'_, '_>, m: Module, f: Map) -> Result<(RepId, MapId), AllocError>
     requires small { IsSmallModule arena.old.header m }
     requires map { IsMapAmong (with_module arena.old m) f }
     requires room { HasRoom arena.old }

@@ -11,7 +11,6 @@ mod modules;
 
 pub use maps::{cokernel, image, kernel};
 pub use modules::{dual, radical, sum, top};
-
 use std::alloc::AllocError;
 
 /// Why there is no sum.

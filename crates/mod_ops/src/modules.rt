@@ -27,11 +27,7 @@ pub fn radical(
 }
 
 /// Adds the top of a module and its projection, co-reduced at each vertex, and answers their numbers. After a refusal the lists are as before.
-pub fn top(
-    alloc: Global,
-    arena: &mut Arena<'_, '_>,
-    a: RepId,
-) -> Result<(RepId, MapId), AllocError>
+pub fn top(alloc: Global, arena: &mut Arena<'_, '_>, a: RepId) -> Result<(RepId, MapId), AllocError>
     requires names { NamesModule arena.old a.number }
     requires room { HasRoom arena.old }
     ensures top { IfOk result (λ ids. AddsTop arena.old arena.new a.number ids.0.number ids.1.number) }
@@ -45,12 +41,7 @@ pub fn top(
 
 /// Adds the direct sum of two modules of one side, the coordinates of `a` before those of `b`, and answers its number. It is refused where the dimensions add
 /// to more than 256; after a refusal the lists are as before.
-pub fn sum(
-    alloc: Global,
-    arena: &mut Arena<'_, '_>,
-    a: RepId,
-    b: RepId,
-) -> Result<RepId, DimError>
+pub fn sum(alloc: Global, arena: &mut Arena<'_, '_>, a: RepId, b: RepId) -> Result<RepId, DimError>
     requires first { NamesModule arena.old a.number }
     requires second { NamesModule arena.old b.number }
     requires side { (module_at arena.old a.number).side ≡ (module_at arena.old b.number).side }

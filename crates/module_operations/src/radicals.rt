@@ -60,12 +60,7 @@ fn radical_bases(alloc: Global, header: &Header, a: &Module) -> Result<Seq<Matri
 }
 
 /// The basis in reduced row form of what comes along arrows to a vertex.
-fn arrow_basis(
-    alloc: Global,
-    header: &Header,
-    a: &Module,
-    vertex: u8,
-) -> Result<Matrix, AllocError>
+fn arrow_basis(alloc: Global, header: &Header, a: &Module, vertex: u8) -> Result<Matrix, AllocError>
     requires allowed { IsAllowed header.now }
     requires shape { IsModule header.now.field (algebra_at a.now.side header.now).quiver a.now }
     requires vertex { vertex < vertex_count header.now.quiver }
