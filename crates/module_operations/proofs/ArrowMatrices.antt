@@ -59,7 +59,7 @@ module _ (h : Header) (a : Module) (allowed : IsAllowed h) (shape : IsModule h.f
   pub arrow_matrix : (m : PlainMatrix) → m ≡ slice_index_or a.matrices r m → m ≡ plain h.field (dim_at Q a.dims (Q.source r)) (dim_at Q a.dims (Q.target r)) (rows_at a.matrices r)
   arrow_matrix m e = found h.field Q.arrows _ _ a.matrices shape.matrices r m arrow_below e
 
-  arrow_grid : (m : PlainMatrix) → m ≡ slice_index_or a.matrices r m → IsGrid h.field (dim_at Q a.dims (Q.source r)) (dim_at Q a.dims (Q.target r)) (rows_at a.matrices r)
+  pub arrow_grid : (m : PlainMatrix) → m ≡ slice_index_or a.matrices r m → IsGrid h.field (dim_at Q a.dims (Q.source r)) (dim_at Q a.dims (Q.target r)) (rows_at a.matrices r)
   arrow_grid m e = listed_grid h.field Q.arrows _ _ a.matrices shape.matrices r arrow_below m e
 
   module _ (bases : List PlainMatrix) (S : AreSubspaces (read h a) bases) where
@@ -71,7 +71,7 @@ module _ (h : Header) (a : Module) (allowed : IsAllowed h) (shape : IsModule h.f
 
     pub is_inside : (v : ℕ) (s m : PlainMatrix) → v ≡ Q.source r → s ≡ slice_index_or bases v s → m ≡ slice_index_or a.matrices r m
         → AreInside h.field (space_dim (read h a) bases (Q.source r)) (dim_at Q a.dims (Q.source r)) (dim_at Q a.dims (Q.target r)) (space_dim (read h a) bases (Q.target r))
-            (rows_at bases (Q.source r)) (rows_at a.matrices r) (rows_at bases (Q.target r))
+        (rows_at bases (Q.source r)) (rows_at a.matrices r) (rows_at bases (Q.target r))
     is_inside v s m e f g = record {
       source = listed_grid h.field Q.vertices _ _ bases S.matrices (Q.source r) source_below s (f ∙ ap (λ (v : ℕ). slice_index_or bases v s) e);
       along = arrow_grid m g;
@@ -101,7 +101,7 @@ module _ (h : Header) (a : Module) (allowed : IsAllowed h) (shape : IsModule h.f
 
     pub is_vanishing : (v : ℕ) (t m : PlainMatrix) → v ≡ Q.target r → t ≡ slice_index_or projections v t → m ≡ slice_index_or a.matrices r m
         → AreVanishing h.field (dim_at Q a.dims (Q.source r)) (quotient_dim (read h a) projections (Q.source r)) (dim_at Q a.dims (Q.target r)) (quotient_dim (read h a) projections (Q.target r))
-            (rows_at projections (Q.source r)) (rows_at a.matrices r) (rows_at projections (Q.target r))
+        (rows_at projections (Q.source r)) (rows_at a.matrices r) (rows_at projections (Q.target r))
     is_vanishing v t m e f g = record {
       along = arrow_grid m g;
       target = listed_grid h.field Q.vertices _ _ projections S.matrices (Q.target r) target_below t (f ∙ ap (λ (v : ℕ). slice_index_or projections v t) e);

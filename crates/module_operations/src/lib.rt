@@ -10,13 +10,12 @@ mod sums;
 mod vertex_forms;
 
 pub use duals::dual;
-pub use kernels::{cokernel, image, kernel};
-pub use radicals::{radical, top};
-pub use sums::sum;
-
 use fp_linear::Matrix;
+pub use kernels::{cokernel, image, kernel};
 use module_types::Module;
+pub use radicals::{radical, top};
 use seq::Seq;
+pub use sums::sum;
 
 /// A module with the matrices at the vertices of a map: that from it, of a submodule, or that to it, of a quotient.
 #[derive(Debug, Drop)]

@@ -1,0 +1,8 @@
+use Rattle.std.proofs.Common.{◌∙◌}
+use Rattle.mod_ops.proofs.Added.{top_added}
+use Rattle.mod_ops.proofs.modules.top.Goals as goal
+
+pub returns-clause-top : goal.returns-clause-top
+returns-clause-top c =
+    top_added c.args.arena.now c.add_projection.new.arena c.args.a.number c.in_ok-ids.ids.0.number c.in_ok-ids.ids.1.number c.header.result.now c.in_ok-whole.whole c.in_ok-found.found.module c.in_ok-found.found.matrices c.header.ensures.header
+    (c.in_ok-whole.ensures ∙ c.module.ensures.entry) c.in_ok-found.ensures c.in_ok-ids.ensures.added
