@@ -59,7 +59,7 @@ module _ (h : Header) (a : Module) (allowed : IsAllowed h) (shape : IsModule h.f
   pub arrow_matrix : (m : PlainMatrix) → m ≡ slice_index_or a.matrices r m → m ≡ plain h.field (dim_at Q a.dims (Q.source r)) (dim_at Q a.dims (Q.target r)) (rows_at a.matrices r)
   arrow_matrix m e = found h.field Q.arrows _ _ a.matrices shape.matrices r m arrow_below e
 
-  arrow_grid : (m : PlainMatrix) → m ≡ slice_index_or a.matrices r m → IsGrid h.field (dim_at Q a.dims (Q.source r)) (dim_at Q a.dims (Q.target r)) (rows_at a.matrices r)
+  pub arrow_grid : (m : PlainMatrix) → m ≡ slice_index_or a.matrices r m → IsGrid h.field (dim_at Q a.dims (Q.source r)) (dim_at Q a.dims (Q.target r)) (rows_at a.matrices r)
   arrow_grid m e = listed_grid h.field Q.arrows _ _ a.matrices shape.matrices r arrow_below m e
 
   module _ (bases : List PlainMatrix) (S : AreSubspaces (read h a) bases) where

@@ -20,13 +20,16 @@ use Rattle.module_types.specs.declared.Side.{Side}
 use Rattle.module_types.specs.declared.Side.TheVariants.{Right}
 use Rattle.module_types.specs.Algebras.{algebra_at}
 use Rattle.module_types.specs.Readings.{dim_at, rep_of, read, read_beside, family_of}
+use Rattle.module_types.specs.Shapes.{AreMatrices}
 use Rattle.claim_conditions.specs.Families.{HasMatrices, AreCoReduced}
 use Rattle.module_checks.proofs.Sides.{arrows_at, source_inside, target_inside}
 use Rattle.module_operations.specs.ArrowSpans.{arrow_size, arrow_family}
-use Rattle.module_operations.specs.Computed.{IsSmallModule, IsSmallMap, IsCokernelBy, IsTopBy}
+use Rattle.module_faults.specs.ModuleFaults.{IsSmallModule}
+use Rattle.module_faults.specs.MapFaults.{IsSmallMap}
+use Rattle.module_operations.specs.Computed.{IsCokernelBy, IsTopBy}
 use Rattle.module_operations.specs.VertexSpaces.{row_counts, basis_at, AreSubspaces, AreQuotients, IsQuotientOn, HaveForms, HaveProjections}
-use Rattle.module_operations.proofs.ComputedSubmodules.{A, B, map_across}
-use Rattle.module_operations.proofs.FormSpaces.{forms_read}
+use Rattle.module_operations.proofs.ComputedSubmodules.{A, B, map_across, are_subspaces, arrows_stable}
+use Rattle.module_operations.proofs.FormSpaces.{forms_read, forms_matrices}
 use Rattle.module_operations.proofs.ProjectionSpaces.{projections_quotients, vanishes_on_span, onto, onto_quotient, onto_coreduced, onto_epi, quotient_small, onto_small}
 
 -- What the rows of a module's arrows ask of the quotients.
@@ -121,3 +124,17 @@ module _ (h : Header) (a : Module) (bases : List PlainMatrix) (F : HaveForms (re
     };
     coreduced = onto_coreduced h a n projections (dim_at (algebra_at a.side h).quiver (row_counts bases)) (basis_at (read h a) bases) small S H;
   }
+
+-- The rows of the bases as those of a map, from a module with as many rows at each vertex.
+module _ (h : Header) (a : Module) (bases : List PlainMatrix) (F : HaveForms (read h a) (arrow_size (read h a)) (arrow_family (read h a)) (algebra_at a.side h).quiver.vertices bases) where
+  pub top_projections : (projections : List PlainMatrix) → ((q : Gf) (Q : Quiver) (X Y : Rep q Q) → AreMatrices q Q.vertices X.dim Y.dim bases → HaveProjections Y X.dim (family_of X Y bases) Q.vertices projections)
+      → HaveProjections (read h a) (dim_at (algebra_at a.side h).quiver (row_counts bases)) (basis_at (read h a) bases) (algebra_at a.side h).quiver.vertices projections
+  top_projections projections known =
+      known h.field (algebra_at a.side h).quiver (rep_of h.field (algebra_at a.side h).quiver (record { side = Right; dims = row_counts bases; matrices = [] })) (read h a)
+      (forms_matrices (read h a) (arrow_size (read h a)) (arrow_family (read h a)) bases F)
+
+  pub top_quotients : IsAllowed h → (projections : List PlainMatrix)
+      → HaveProjections (read h a) (dim_at (algebra_at a.side h).quiver (row_counts bases)) (basis_at (read h a) bases) (algebra_at a.side h).quiver.vertices projections → AreQuotients (read h a) projections
+  top_quotients allowed projections H =
+      are_quotients h a (dim_at (algebra_at a.side h).quiver (row_counts bases)) (basis_at (read h a) bases) projections allowed H
+      (are_subspaces h a (arrow_size (read h a)) (arrow_family (read h a)) bases allowed F (arrows_stable h a)).stable

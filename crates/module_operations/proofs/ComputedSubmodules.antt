@@ -24,7 +24,9 @@ use Rattle.module_types.specs.Readings.{rep_of, read, read_beside, family_of, Is
 use Rattle.module_types.specs.Shapes.{IsMap, AreMatrices}
 use Rattle.module_checks.proofs.Sides.{arrows_at, source_inside, target_inside}
 use Rattle.module_operations.specs.ArrowSpans.{arrow_size, arrow_family}
-use Rattle.module_operations.specs.Computed.{IsSmallModule, IsSmallMap, IsKernelBy, IsImageBy, IsRadicalBy}
+use Rattle.module_faults.specs.ModuleFaults.{IsSmallModule}
+use Rattle.module_faults.specs.MapFaults.{IsSmallMap}
+use Rattle.module_operations.specs.Computed.{IsKernelBy, IsImageBy, IsRadicalBy}
 use Rattle.module_operations.specs.VertexSpaces.{AreSubspaces, IsSubmoduleOn, HaveForms, kernel_size, kernel_family}
 use Rattle.module_operations.proofs.FormSpaces.{forms_subspaces, embedding, embedding_form, embedding_reduced, embedding_mono, submodule_small, embedding_small}
 

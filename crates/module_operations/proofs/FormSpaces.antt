@@ -26,7 +26,8 @@ use Rattle.module_types.specs.Shapes.{IsModule, IsMap, AreMatrices}
 use Rattle.module_types.proofs.Written.{dim_at-below}
 use Rattle.claim_conditions.specs.Families.{AreReduced}
 use Rattle.claim_conditions.specs.Modules.{MapHolds}
-use Rattle.module_operations.specs.Computed.{IsSmallModule, IsSmallMap}
+use Rattle.module_faults.specs.ModuleFaults.{IsSmallModule}
+use Rattle.module_faults.specs.MapFaults.{IsSmallMap}
 use Rattle.module_operations.specs.VertexSpaces.{row_counts, basis_at, AreSubspaces, IsSubmoduleOn, IsFormOf, HaveForms}
 use Rattle.module_operations.proofs.OnSpaces.{no_rows_equal}
 

@@ -12,3 +12,6 @@ pub mod ProjectionSpaces
 pub mod ComputedQuotients
 pub mod SmallMaps
 pub mod ArrowSpanSteps
+pub mod Diagonals
+pub mod ArrowStacks
+pub mod SumLists

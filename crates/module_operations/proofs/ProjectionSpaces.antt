@@ -27,7 +27,8 @@ use Rattle.module_types.specs.Shapes.{IsModule, IsMap, AreMatrices}
 use Rattle.module_types.proofs.Written.{dim_at-below}
 use Rattle.claim_conditions.specs.Families.{AreCoReduced}
 use Rattle.claim_conditions.specs.Modules.{MapHolds}
-use Rattle.module_operations.specs.Computed.{IsSmallModule, IsSmallMap}
+use Rattle.module_faults.specs.ModuleFaults.{IsSmallModule}
+use Rattle.module_faults.specs.MapFaults.{IsSmallMap}
 use Rattle.module_operations.specs.VertexSpaces.{col_counts, projection_at, AreQuotients, IsQuotientOn, IsProjectionOf, HaveProjections}
 use Rattle.module_operations.proofs.FormSpaces.{no_columns_equal}
 

@@ -11,7 +11,8 @@ use Rattle.module_types.specs.Algebras.{algebra_at}
 use Rattle.module_types.specs.Readings.{dim_at}
 use Rattle.module_types.specs.Shapes.{IsModule, IsMap, AreMatrices}
 use Rattle.module_types.proofs.Written.{dim_at-dimension}
-use Rattle.module_operations.specs.Computed.{IsSmallModule, IsSmallMap}
+use Rattle.module_faults.specs.ModuleFaults.{IsSmallModule}
+use Rattle.module_faults.specs.MapFaults.{IsSmallMap}
 use Rattle.module_operations.specs.VertexSpaces.{AreLow, AreNarrow}
 
 pub dim_few : (q : Gf) (Q : Quiver) (m : Module) → IsModule q Q m → (v : ℕ) → dim_at Q m.dims v ≤ 256

@@ -4,24 +4,13 @@ use Rattle.std.specs.Prelude.{List}
 use Rattle.fp_linear.specs.Matrix.{PlainMatrix}
 use Rattle.path_algebra.specs.declared.Header.{Header}
 use Rattle.module_types.specs.declared.Module.{Module}
-use Rattle.module_types.specs.Algebras.{algebra_at}
-use Rattle.module_types.specs.Readings.{IsModuleOver, read, read_beside}
-use Rattle.module_types.specs.Shapes.{IsModule, IsMap}
+use Rattle.module_types.specs.Readings.{read, read_beside}
 use Rattle.claim_conditions.specs.Families.{AreReduced, AreCoReduced}
-use Rattle.claim_conditions.specs.Modules.{MapHolds}
 use Rattle.claim_conditions.specs.Kernels.{KernelHolds, CokernelHolds}
 use Rattle.claim_conditions.specs.Radicals.{RadicalHolds}
+use Rattle.module_faults.specs.ModuleFaults.{IsSmallModule}
+use Rattle.module_faults.specs.MapFaults.{IsSmallMap}
 use Rattle.module_operations.specs.Images.{ImageHolds, TopHolds}
-
--- Matrices of a homomorphism from a to b, with their shapes.
-pub record IsSmallMap (h : Header) (a b : Module) (f : List PlainMatrix) : Type 0 where
-  pub shape : IsMap h.field (algebra_at a.side h).quiver a b f
-  pub holds : MapHolds h a b f
-
--- A module over the header, with its shape, of at most the largest dimension.
-pub record IsSmallModule (h : Header) (m : Module) : Type 0 where
-  pub shape : IsModule h.field (algebra_at m.side h).quiver m
-  pub over : IsModuleOver h m
 
 pub record IsKernelBy (h : Header) (a b n : Module) (f i : List PlainMatrix) : Type 0 where
   pub small : IsSmallModule h n

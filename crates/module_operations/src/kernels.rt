@@ -2,7 +2,9 @@
 ghost use Rattle.std.specs.Prelude.{◌≡◌, IfOk};
 ghost use Rattle.path_algebra.specs.Allowed.{IsAllowed};
 ghost use Rattle.module_types.specs.declared.Module.{Module as Printed};
-ghost use Rattle.module_operations.specs.Computed.{IsSmallModule, IsSmallMap, IsKernelBy, IsCokernelBy, IsImageBy};
+ghost use Rattle.module_faults.specs.ModuleFaults.{IsSmallModule};
+ghost use Rattle.module_faults.specs.MapFaults.{IsSmallMap};
+ghost use Rattle.module_operations.specs.Computed.{IsKernelBy, IsCokernelBy, IsImageBy};
 
 use crate::MappedModule;
 use crate::quotient_modules::quotient_module;

@@ -1,12 +1,13 @@
 //! Radicals and tops.
-ghost use Rattle.std.specs.Prelude.{◌≡◌, ◌<◌, IfOk};
+ghost use Rattle.std.specs.Prelude.{◌≡◌, ◌<◌, ◌+◌, IfOk};
 ghost use Rattle.quiver_paths.specs.Quiver.{arrow_count, vertex_count};
 ghost use Rattle.path_algebra.specs.Allowed.{IsAllowed};
 ghost use Rattle.module_types.specs.Algebras.{algebra_at};
 ghost use Rattle.module_types.specs.Readings.{read};
 ghost use Rattle.module_types.specs.Shapes.{IsModule};
 ghost use Rattle.fp_linear.specs.Matrix.{PlainMatrix};
-ghost use Rattle.module_operations.specs.Computed.{IsSmallModule, IsRadicalBy, IsTopBy};
+ghost use Rattle.module_faults.specs.ModuleFaults.{IsSmallModule};
+ghost use Rattle.module_operations.specs.Computed.{IsRadicalBy, IsTopBy};
 ghost use Rattle.module_operations.specs.ArrowSpans.{arrow_size, arrow_family, SpansArrows};
 ghost use Rattle.module_operations.specs.VertexSpaces.{HaveForms};
 

@@ -2,12 +2,13 @@
 ghost use Rattle.std.specs.Prelude.{◌≡◌, ◌+◌, ◌*◌, ◌≤◌, IfOk};
 ghost use Rattle.linear_algebra.specs.Field.{Gf};
 ghost use Rattle.linear_algebra.specs.DirectSum.{diagonal};
+ghost use Rattle.linear_algebra.specs.Matrix.{beside};
 ghost use Rattle.linear_algebra.specs.Typed.{as_mat, grid_of};
-ghost use Rattle.fp_linear.specs.Matrix.{PlainMatrix, plain, most_entries};
+ghost use Rattle.fp_linear.specs.Matrix.{PlainMatrix, plain, IsMatrix, most_entries};
 ghost use Rattle.representations.specs.Quiver.{Quiver};
 ghost use Rattle.module_types.specs.Written.{block_sum};
 ghost use Rattle.row_spaces.specs.RowSpaces.{typed};
-ghost use Rattle.module_operations.specs.Summands.{AreSummands};
+ghost use Rattle.module_operations.specs.Summands.{AreSummands, AreSmallBlocks};
 
 use fp_linear::Matrix;
 use module_types::Module;
@@ -39,38 +40,32 @@ pub fn sum(alloc: Global, a: &Module, b: &Module) -> Result<Module, AllocError>
 /// The matrix with these two as blocks on the diagonal, and zeros elsewhere.
 fn diagonal_blocks(alloc: Global, a: &Matrix, b: &Matrix) -> Result<Matrix, AllocError>
     requires field { b.now.field ≡ a.now.field }
-    requires size { (a.now.row_count + b.now.row_count) * (a.now.col_count + b.now.col_count) ≤ most_entries }
-    requires rows { a.now.row_count + b.now.row_count ≤ 4294967295 }
-    requires cols { a.now.col_count + b.now.col_count ≤ 4294967295 }
+    requires small { AreSmallBlocks a.now b.now }
     ensures { IfOk result (λ m. m ≡ plain a.now.field (a.now.row_count + b.now.row_count) (a.now.col_count + b.now.col_count)
         (grid_of (diagonal (typed a.now) (as_mat a.now.field b.now.row_count b.now.col_count b.now.rows)))) }
 {
-    let rows = a.rows() + b.rows();
-    let cols = a.cols() + b.cols();
-    let mut entries = Vec::with_capacity(alloc, rows as usize * cols as usize)?;
-    push_padded(0, a, b.cols(), &mut entries)?;
-    push_padded(a.cols(), b, 0, &mut entries)?;
-    let matrix = Matrix::from_entries(alloc, a.field(), rows, cols, &entries)?;
+    let right = Matrix::zero(alloc, a.field(), a.rows(), b.cols())?;
+    let above = beside(alloc, a, &right)?;
+    let left = Matrix::zero(alloc, a.field(), b.rows(), a.cols())?;
+    let below = beside(alloc, &left, b)?;
+    let blocks = above.stack(alloc, &below)?;
+    Ok(blocks)
+}
+
+/// The columns of a matrix followed by those of another.
+fn beside(alloc: Global, left: &Matrix, right: &Matrix) -> Result<Matrix, AllocError>
+    requires left { IsMatrix left.now }
+    requires right { IsMatrix right.now }
+    requires field { right.now.field ≡ left.now.field }
+    requires rows { right.now.row_count ≡ left.now.row_count }
+    requires cols { left.now.col_count + right.now.col_count ≤ 4294967295 }
+    requires size { (left.now.col_count + right.now.col_count) * left.now.row_count ≤ most_entries }
+    ensures { IfOk result (λ m. m ≡ plain left.now.field left.now.row_count (left.now.col_count + right.now.col_count)
+        (grid_of (beside (typed left.now) (as_mat left.now.field left.now.row_count right.now.col_count right.now.rows)))) }
+{
+    let left = left.transpose(alloc)?;
+    let right = right.transpose(alloc)?;
+    let columns = left.stack(alloc, &right)?;
+    let matrix = columns.transpose(alloc)?;
     Ok(matrix)
-}
-
-/// Adds the rows of a matrix, each with so many zeros before and behind it.
-fn push_padded(before: u32, matrix: &Matrix, behind: u32, entries: &mut Vec<u8>) -> Result<(), AllocError>
-{
-    for i in 0..matrix.rows() {
-        push_zeros(before, entries)?;
-        entries.extend_from_slice(matrix.row(i))?;
-        push_zeros(behind, entries)?;
-    }
-    Ok(())
-}
-
-/// Adds zeros.
-fn push_zeros(count: u32, entries: &mut Vec<u8>) -> Result<(), AllocError>
-    ensures { OnOk result (entries.new.items ≡ entries.old.items ++ replicate count 0) }
-{
-    for _ in 0..count {
-        entries.push(0)?;
-    }
-    Ok(())
 }
