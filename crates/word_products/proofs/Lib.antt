@@ -12,3 +12,4 @@ pub mod ActionSteps
 pub mod DenseRows
 pub mod TouchedRows
 pub mod TakenSums
+pub mod BeforeRows

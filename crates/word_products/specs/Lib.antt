@@ -2,3 +2,4 @@ pub mod Closure
 pub mod SparseRows
 pub mod WordProducts
 pub mod Vanishing
+pub mod Before
