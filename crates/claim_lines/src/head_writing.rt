@@ -11,6 +11,7 @@ use report_types::{PartClaim, Translation};
 use std::alloc::AllocError;
 
 /// Adds each number behind a space.
+#[tactic(auto, using(text_lines::proofs::Prefixes::prefix_behind))]
 fn push_numbers(out: &mut Vec<u8>, numbers: &[u32]) -> Result<(), AllocError>
     ensures { Adds (behind_spaces (map decimal numbers.now)) out.old.items out.new.items result }
 {
@@ -44,6 +45,7 @@ fn push_using(
     Ok(())
 }
 
+#[tactic(auto, using(text_lines::proofs::Prefixes::prefix_behind, text_lines::proofs::Prefixes::prefix_behind_two))]
 fn push_parts(out: &mut Vec<u8>, parts: &[PartClaim]) -> Result<(), AllocError>
     ensures { Adds (behind_spaces (parts_form parts.now)) out.old.items out.new.items result }
 {

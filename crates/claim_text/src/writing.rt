@@ -29,6 +29,7 @@ use report_types::{Claim, PartClaim, Record, Report};
 use seq::Seq;
 use std::alloc::{AllocError, Global};
 
+#[tactic(auto, using(text_lines::proofs::Prefixes::prefix_behind))]
 fn push_gens(out: &mut Vec<u8>, images: &[Seq<u8>]) -> Result<(), AllocError>
     ensures { Adds (text_of (map gen_line images.now)) out.old.items out.new.items result }
 {
@@ -48,6 +49,7 @@ fn push_term(out: &mut Vec<u8>, quiver: &Quiver, k: u32, term: &TermRows) -> Res
 }
 
 /// Adds the terms of a resolution.
+#[tactic(auto, using(text_lines::proofs::Prefixes::prefix_behind))]
 fn push_terms(out: &mut Vec<u8>, quiver: &Quiver, terms: &[TermRows]) -> Result<(), AllocError>
     requires { length terms.now < 2 ^ 32 }
     ensures { Adds (text_of (term_lines quiver.now 0 terms.now)) out.old.items out.new.items result }
@@ -86,6 +88,7 @@ fn push_map(out: &mut Vec<u8>, header: &Header, before: u32, f: &Map) -> Result<
 }
 
 /// Adds modules behind so many.
+#[tactic(auto, using(text_lines::proofs::Prefixes::prefix_behind))]
 fn push_modules(
     out: &mut Vec<u8>,
     header: &Header,
@@ -103,6 +106,7 @@ fn push_modules(
 }
 
 /// Adds maps behind so many.
+#[tactic(auto, using(text_lines::proofs::Prefixes::prefix_behind))]
 fn push_maps(
     out: &mut Vec<u8>,
     header: &Header,
@@ -119,6 +123,7 @@ fn push_maps(
     Ok(())
 }
 
+#[tactic(auto, using(text_lines::proofs::Prefixes::prefix_behind))]
 fn push_words(out: &mut Vec<u8>, quiver: &Quiver, words: &[Path]) -> Result<(), AllocError>
     ensures { Adds (text_of (map (word_line quiver.now) words.now)) out.old.items out.new.items result }
 {
@@ -128,6 +133,7 @@ fn push_words(out: &mut Vec<u8>, quiver: &Quiver, words: &[Path]) -> Result<(), 
     Ok(())
 }
 
+#[tactic(auto, using(text_lines::proofs::Prefixes::prefix_behind))]
 fn push_steps(out: &mut Vec<u8>, quiver: &Quiver, steps: &[Step]) -> Result<(), AllocError>
     ensures { Adds (text_of (step_lines quiver.now 1 steps.now)) out.old.items out.new.items result }
 {
@@ -137,6 +143,7 @@ fn push_steps(out: &mut Vec<u8>, quiver: &Quiver, steps: &[Step]) -> Result<(), 
     Ok(())
 }
 
+#[tactic(auto, using(text_lines::proofs::Prefixes::prefix_behind))]
 fn push_rules(out: &mut Vec<u8>, quiver: &Quiver, rules: &[Rule]) -> Result<(), AllocError>
     ensures { Adds (text_of (map (rule_line quiver.now) rules.now)) out.old.items out.new.items result }
 {
@@ -437,6 +444,7 @@ pub fn push_record(
     Ok(())
 }
 
+#[tactic(auto, using(text_lines::proofs::Prefixes::prefix_behind))]
 fn push_records(out: &mut Vec<u8>, header: &Header, items: &[Record]) -> Result<(), AllocError>
     requires few { length items.now < 2 ^ 32 }
     requires few_modules { length (modules_of items.now) < 2 ^ 32 }

@@ -42,6 +42,7 @@ fn push_between(out: &mut Vec<u8>, i: usize, between: &[u8]) -> Result<(), Alloc
 }
 
 /// Adds the names of the arrows, joined by `.`.
+#[tactic(auto, using(text_lines::proofs::Prefixes::prefix_behind, text_lines::proofs::Prefixes::prefix_behind_same))]
 fn push_arrows(out: &mut Vec<u8>, quiver: &Quiver, arrows: &[u8]) -> Result<(), AllocError>
     ensures { Adds (arrows_text quiver.now arrows.now) out.old.items out.new.items result }
 {
@@ -86,6 +87,7 @@ fn push_term(out: &mut Vec<u8>, quiver: &Quiver, term: &Term) -> Result<(), Allo
 }
 
 /// Adds the terms with ` + ` between each two.
+#[tactic(auto, using(text_lines::proofs::Prefixes::prefix_behind))]
 pub fn push_terms(out: &mut Vec<u8>, quiver: &Quiver, terms: &[Term]) -> Result<(), AllocError>
     ensures { Adds (joined 32 (terms_arguments quiver.now terms.now)) out.old.items out.new.items result }
 {
@@ -148,6 +150,7 @@ fn push_relation(out: &mut Vec<u8>, quiver: &Quiver, relation: &Relation) -> Res
     Ok(())
 }
 
+#[tactic(auto, using(text_lines::proofs::Prefixes::prefix_behind))]
 fn push_vertices(out: &mut Vec<u8>, names: &[Name]) -> Result<(), AllocError>
     ensures { Adds (text_of (map vertex_line names.now)) out.old.items out.new.items result }
 {
@@ -157,6 +160,7 @@ fn push_vertices(out: &mut Vec<u8>, names: &[Name]) -> Result<(), AllocError>
     Ok(())
 }
 
+#[tactic(auto, using(text_lines::proofs::Prefixes::prefix_behind))]
 fn push_all_arrows(out: &mut Vec<u8>, quiver: &Quiver) -> Result<(), AllocError>
     ensures { Adds (text_of (map (arrow_line quiver.now) quiver.now.arrows)) out.old.items out.new.items result }
 {
@@ -166,6 +170,7 @@ fn push_all_arrows(out: &mut Vec<u8>, quiver: &Quiver) -> Result<(), AllocError>
     Ok(())
 }
 
+#[tactic(auto, using(text_lines::proofs::Prefixes::prefix_behind))]
 fn push_relations(
     out: &mut Vec<u8>,
     quiver: &Quiver,

@@ -33,6 +33,7 @@ fn push_number(out: &mut Vec<u8>, n: u64) -> Result<(), AllocError>
 }
 
 /// Adds numbers, each behind a space.
+#[tactic(auto, using(text_lines::proofs::Prefixes::prefix_behind))]
 fn push_numbers(out: &mut Vec<u8>, numbers: &[u32]) -> Result<(), AllocError>
     ensures { Adds (behind_spaces (numbers_form numbers.now)) out.old.items out.new.items result }
 {
@@ -43,6 +44,7 @@ fn push_numbers(out: &mut Vec<u8>, numbers: &[u32]) -> Result<(), AllocError>
 }
 
 /// Adds entries, each behind a space.
+#[tactic(auto, using(text_lines::proofs::Prefixes::prefix_behind))]
 fn push_entries(out: &mut Vec<u8>, entries: &[u8]) -> Result<(), AllocError>
     ensures { Adds (behind_spaces (numbers_form entries.now)) out.old.items out.new.items result }
 {
@@ -53,6 +55,7 @@ fn push_entries(out: &mut Vec<u8>, entries: &[u8]) -> Result<(), AllocError>
 }
 
 /// Adds the names of vertices, each behind a space.
+#[tactic(auto, using(text_lines::proofs::Prefixes::prefix_behind))]
 fn push_vertices(out: &mut Vec<u8>, quiver: &Quiver, vertices: &[u8]) -> Result<(), AllocError>
     ensures { Adds (behind_spaces (map (vertex_name quiver.now) vertices.now)) out.old.items out.new.items result }
 {
@@ -132,6 +135,7 @@ fn push_slash(out: &mut Vec<u8>, i: u32) -> Result<(), AllocError>
 }
 
 /// Adds the rows of a matrix.
+#[tactic(auto, using(text_lines::proofs::Prefixes::prefix_behind))]
 fn push_matrix(out: &mut Vec<u8>, m: &Matrix) -> Result<(), AllocError>
     ensures { Adds (behind_spaces (matrix_form m.now.rows)) out.old.items out.new.items result }
 {
@@ -163,6 +167,7 @@ fn push_at_some(out: &mut Vec<u8>, name: &[u8], m: &Matrix) -> Result<(), AllocE
 }
 
 /// Adds the lines of the matrices at the vertices, those without an entry left out.
+#[tactic(auto, using(text_lines::proofs::Prefixes::prefix_behind))]
 pub fn push_at_vertices(
     out: &mut Vec<u8>,
     quiver: &Quiver,
@@ -178,6 +183,7 @@ pub fn push_at_vertices(
 }
 
 /// Adds the lines of the matrices at the arrows, those without an entry left out.
+#[tactic(auto, using(text_lines::proofs::Prefixes::prefix_behind))]
 pub fn push_at_arrows(
     out: &mut Vec<u8>,
     quiver: &Quiver,
@@ -200,6 +206,7 @@ pub fn push_row_line(out: &mut Vec<u8>, entries: &[u8]) -> Result<(), AllocError
 }
 
 /// Adds the lines of the rows of a matrix.
+#[tactic(auto, using(text_lines::proofs::Prefixes::prefix_behind))]
 pub fn push_row_lines(out: &mut Vec<u8>, m: &Matrix) -> Result<(), AllocError>
     ensures { Adds (text_of (map row_line m.now.rows)) out.old.items out.new.items result }
 {
