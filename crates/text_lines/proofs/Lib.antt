@@ -5,3 +5,4 @@ pub mod FormLaws
 pub mod StrictLaws
 mod WordLaws
 pub mod ShortNumbers
+pub mod Prefixes

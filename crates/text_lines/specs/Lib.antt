@@ -6,3 +6,4 @@ pub mod Numerals
 pub mod Reading
 pub mod Forms
 pub mod Refusals
+pub mod Adding
