@@ -1,0 +1,80 @@
+-- What is written has the shape of a module, and of a map.
+use Rattle.std.proofs.Common.{ℕ, zero, suc, ◌≡◌, ◌<◌, ◌≤◌, ◌+◌, ◌*◌, Bool, true, false, List, [], ◌∷◌, ◌++◌, length, get_or, refl, sym, ap, ap₂, ◌∙◌, subst, arith}
+use Rattle.std.specs.Prelude.{slice_index, slice_index_or, nat_eq, ◌&&◌}
+use Rattle.std.proofs.lemmas.List.{get_or_default, length-map}
+use Rattle.linear_algebra.specs.Field.{Gf}
+use Rattle.linear_algebra.specs.Rows.{list_of}
+use Rattle.linear_algebra.proofs.Rows.{length-list_of, get_or-list_of}
+use Rattle.fp_linear.specs.Matrix.{PlainMatrix, most_entries}
+use Rattle.quiver_paths.specs.Quiver.{vertex_count, arrow_count}
+use Rattle.path_algebra.specs.declared.Header.{Header}
+use Rattle.representations.specs.Quiver.{opposite}
+use Rattle.bound_algebra.specs.TypedPaths.{quiver_of}
+use Rattle.module_types.specs.declared.Side.{Side}
+use Rattle.module_types.specs.declared.Side.TheVariants.{Right, Left}
+use Rattle.module_types.specs.declared.Module.{Module}
+use Rattle.module_types.specs.Algebras.{algebra_at}
+use Rattle.module_types.specs.Readings.{dim_at}
+use Rattle.module_types.specs.Shapes.{HasShape, AreMatrices, IsModule, IsMap, dimension, most_dimension}
+use Rattle.module_checks.proofs.Sides.{dim_small}
+use Rattle.module_faults.specs.MapFaults.{HasMapShape}
+use Rattle.report_types.specs.WordDimensions.{dim_of}
+use Rattle.script_types.specs.declared.AtLine.{AtLine}
+use Rattle.script_answers.specs.Written.{arrow_names, vertex_names, rows_at_name, matrix_or_zero, matrices_at, lines_fit, rows_from, columns_to, rep_written, map_written}
+use Rattle.written_modules.specs.Lines.{HoldRows, AreSmall}
+use Rattle.written_modules.proofs.Fitting.{rows_fit_at, rows_hold_at}
+use Rattle.written_modules.proofs.Rows.{shape_of}
+
+-- two counts of at most 256
+pub few_entries : (m n : ℕ) → m ≤ 256 → n ≤ 256 → m * n ≤ most_entries
+few_entries m n a b = let c = Rattle.std.proofs.Common.mul-le-mul_right n a in let d = Rattle.std.proofs.Common.mul-le-mul_right 256 b in let e = Rattle.std.proofs.Common.mul-comm 256 n in omega (arith, c, d, e)
+
+pub matrices_shape : (q : Gf) (names : List (List ℕ)) (m n : ℕ → ℕ) (lines : List AtLine) (count : ℕ) → length names ≡ count → ((i : ℕ) → m i ≤ 256) → ((i : ℕ) → n i ≤ 256) → HoldRows q lines → lines_fit names m n lines ≡ true
+    → AreMatrices q count m n (matrices_at q names m n lines)
+matrices_shape q names m n lines count counted a b all fit =
+    let f = λ (i : ℕ). matrix_or_zero q (m i) (n i) (rows_at_name lines (slice_index_or names i [])) in
+    record {
+      counted = length-list_of (length names) f ∙ counted;
+      each = λ i d l. subst (HasShape q (m i) (n i)) (sym (get_or-list_of (length names) f i d (omega (arith, l, counted))))
+          (shape_of q (m i) (n i) (rows_at_name lines (slice_index_or names i [])) (few_entries (m i) (n i) (a i) (b i)) (rows_fit_at names m n lines fit i (omega (arith, l, counted))) (rows_hold_at q lines all (slice_index_or names i [])));
+    }
+
+-- counts that are those of functions
+pub fit_by : (names : List (List ℕ)) (m n : ℕ → ℕ) (rows cols : List ℕ) (lines : List AtLine) → slice_index rows ≡ m → slice_index cols ≡ n → lines_fit names (slice_index rows) (slice_index cols) lines ≡ lines_fit names m n lines
+fit_by names m n rows cols lines a b = ap₂ (λ (m n : ℕ → ℕ). lines_fit names m n lines) a b
+
+pub matrices_by : (q : Gf) (names : List (List ℕ)) (m n : ℕ → ℕ) (rows cols : List ℕ) (lines : List AtLine) → slice_index rows ≡ m → slice_index cols ≡ n → matrices_at q names (slice_index rows) (slice_index cols) lines ≡ matrices_at q names m n lines
+matrices_by q names m n rows cols lines a b = ap₂ (λ (m n : ℕ → ℕ). matrices_at q names m n lines) a b
+
+-- dimensions are small
+pub dim_at_small : (Q : Rattle.representations.specs.Quiver.Quiver) (dims : List ℕ) → dimension dims ≤ most_dimension → (v : ℕ) → dim_at Q dims v ≤ 256
+unfolding dim_at
+dim_at_small Q dims small v = chosen (Rattle.std.proofs.Common.ltb v Q.vertices)
+  where
+    chosen : (b : Bool) → Rattle.std.proofs.Common.cond b (slice_index dims v) zero ≤ 256
+    chosen true = dim_small dims small v
+    chosen false = omega arith
+
+pub rep_shape_is : (h : Header) (dims : List ℕ) (lines : List AtLine) → length dims ≡ vertex_count h.quiver → dimension dims ≤ most_dimension → HoldRows h.field lines
+    → lines_fit (arrow_names h) (rows_from h dims) (columns_to h dims) lines ≡ true → IsModule h.field (quiver_of h.quiver) (rep_written h dims lines)
+rep_shape_is h dims lines counted small all fit = record {
+  counted = counted;
+  small = small;
+  matrices = matrices_shape h.field (arrow_names h) (rows_from h dims) (columns_to h dims) lines (arrow_count h.quiver) (length-map h.quiver.arrows _) (λ a. dim_at_small (quiver_of h.quiver) dims small _) (λ a. dim_at_small (quiver_of h.quiver) dims small _) all fit;
+}
+
+map_at_side : (side : Side) (h : Header) (a b : Module) (matrices : List PlainMatrix) → AreMatrices h.field (vertex_count h.quiver) (dim_of h a) (dim_of h b) matrices → IsMap h.field (algebra_at side h).quiver a b matrices
+unfolding dim_at
+map_at_side Right h a b matrices s = s
+map_at_side Left h a b matrices s = s
+
+pub map_shape_is : (h : Header) (a b : Module) (lines : List AtLine) → dimension a.dims ≤ most_dimension → dimension b.dims ≤ most_dimension → HoldRows h.field lines
+    → lines_fit (vertex_names h) (dim_of h a) (dim_of h b) lines ≡ true → HasMapShape h a b (map_written h a b lines)
+map_shape_is h a b lines small few all fit =
+    map_at_side a.side h a b (map_written h a b lines)
+    (matrices_shape h.field (vertex_names h) (dim_of h a) (dim_of h b) lines (vertex_count h.quiver) refl (dim_at_small (quiver_of h.quiver) a.dims small) (dim_at_small (quiver_of h.quiver) b.dims few) all fit)
+
+-- so many counts of a quiver of a side
+pub vertices_at : (side : Side) (h : Header) → (algebra_at side h).quiver.vertices ≡ vertex_count h.quiver
+vertices_at Right h = refl
+vertices_at Left h = refl
