@@ -9,8 +9,8 @@ use Rattle.script_answers.specs.FirstTests.{first_of}
 
 module _ {A : Type 0} (p : A → Bool) where
   pub position_first : (xs : List A) (i : ℕ) (d : A) → i < length xs → p (get_or xs i d) ≡ true → ((k : ℕ) → k < i → p (get_or xs k d) ≡ false) → position p xs ≡ Some i
-  position_first xs i d l yes before =
-      let e = position_or_len_is p xs i d (omega (arith, l)) before (λ _. yes) in
+  position_first xs i d l passes before =
+      let e = position_or_len_is p xs i d (omega (arith, l)) before (λ _. passes) in
       cond-true _ (Some (position_or_len p xs)) None (lt-ltb (position_or_len p xs) (length xs) (omega (arith, e, l))) ∙ ap Some e
 
   pub position_none : (xs : List A) (d : A) → ((k : ℕ) → k < length xs → p (get_or xs k d) ≡ false) → position p xs ≡ None
@@ -19,9 +19,9 @@ module _ {A : Type 0} (p : A → Bool) where
       cond-false _ (Some (position_or_len p xs)) None (le-ltb (position_or_len p xs) (length xs) (omega (arith, e)))
 
   pub find_first : (xs : List A) (i : ℕ) (d : A) → i < length xs → p (get_or xs i d) ≡ true → ((k : ℕ) → k < i → p (get_or xs k d) ≡ false) → find p xs ≡ Some (get_or xs i d)
-  find_first [] i d l yes before = absurd (omega arith)
-  find_first (x ∷ xs) zero d l yes before = cond-true (p x) (Some x) (find p xs) yes
-  find_first (x ∷ xs) (suc i) d l yes before = cond-false (p x) (Some x) (find p xs) (before zero (omega arith)) ∙ find_first xs i d (omega arith) yes (λ k m. before (suc k) (omega arith))
+  find_first [] i d l passes before = absurd (omega arith)
+  find_first (x ∷ xs) zero d l passes before = cond-true (p x) (Some x) (find p xs) passes
+  find_first (x ∷ xs) (suc i) d l passes before = cond-false (p x) (Some x) (find p xs) (before zero (omega arith)) ∙ find_first xs i d (omega arith) passes (λ k m. before (suc k) (omega arith))
 
   pub find_none : (xs : List A) (d : A) → ((k : ℕ) → k < length xs → p (get_or xs k d) ≡ false) → find p xs ≡ None
   find_none [] d before = λ i. None

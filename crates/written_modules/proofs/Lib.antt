@@ -1,3 +1,4 @@
+pub mod Among
 pub mod Counts
 pub mod Firsts
 pub mod Fitting

@@ -101,7 +101,7 @@ pub record HoldFirst (q : Gf) (n i : ℕ) (rows : List (List ℕ)) (entries : Li
 pub first_none : (q : Gf) (n : ℕ) (rows : List (List ℕ)) (entries : List ℕ) → entries ≡ [] → HoldFirst q n 0 rows entries
 unfolding rows_of list_of
 first_none q n rows entries e = record {
-  count = ap length e;
+  count = let c = ap length e in omega (arith, c);
   elements = record { small = λ k. let o = order-pos q in let z : slice_index entries k ≡ 0 = ap (λ s. slice_index s k) e in omega (arith, o, z) };
   rows_are = refl;
 }

@@ -24,7 +24,7 @@ use Rattle.written_modules.proofs.ZeroTests.{matrix_same, same_if}
 
 module _ {q : Gf} {Q : Quiver} (X Y : Rep q Q) (f : (v : ℕ) → Mat q (X.dim v) (Y.dim v)) where
   place : (k : ℕ) → k < Q.arrows → get_or (range_with_len 0 Q.arrows) k 0 ≡ k
-  place k l = get_or-range_with_len 0 Q.arrows k 0 l
+  place k l = let e = get_or-range_with_len 0 Q.arrows k 0 l in omega (arith, e)
 
   goes : (k : ℕ) → k < Q.arrows → X.mat k · f (Q.target k) ≡ f (Q.source k) · Y.mat k
       → not (same_matrix (X.mat (get_or (range_with_len 0 Q.arrows) k 0) · f (Q.target (get_or (range_with_len 0 Q.arrows) k 0))) (f (Q.source (get_or (range_with_len 0 Q.arrows) k 0)) · Y.mat (get_or (range_with_len 0 Q.arrows) k 0))) ≡ false

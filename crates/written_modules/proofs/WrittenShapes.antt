@@ -1,7 +1,8 @@
 -- What is written has the shape of a module, and of a map.
-use Rattle.std.proofs.Common.{ℕ, zero, suc, ◌≡◌, ◌<◌, ◌≤◌, ◌+◌, ◌*◌, Bool, true, false, List, [], ◌∷◌, ◌++◌, length, get_or, refl, sym, ap, ap₂, ◌∙◌, subst, arith}
+use Rattle.std.proofs.Common.{ℕ, zero, suc, ◌≡◌, ◌<◌, ◌≤◌, ◌+◌, ◌*◌, Bool, true, false, List, [], ◌∷◌, ◌++◌, length, get_or, refl, sym, ap, ap₂, ◌∙◌, subst, arith, mul-le-mul_right}
 use Rattle.std.specs.Prelude.{slice_index, slice_index_or, nat_eq, ◌&&◌}
 use Rattle.std.proofs.lemmas.List.{get_or_default, length-map}
+use Rattle.std.proofs.lemmas.Grind.{get_or_default_zero}
 use Rattle.linear_algebra.specs.Field.{Gf}
 use Rattle.linear_algebra.specs.Rows.{list_of}
 use Rattle.linear_algebra.proofs.Rows.{length-list_of, get_or-list_of}
@@ -20,14 +21,14 @@ use Rattle.module_checks.proofs.Sides.{dim_small}
 use Rattle.module_faults.specs.MapFaults.{HasMapShape}
 use Rattle.report_types.specs.WordDimensions.{dim_of}
 use Rattle.script_types.specs.declared.AtLine.{AtLine}
-use Rattle.script_answers.specs.Written.{arrow_names, vertex_names, rows_at_name, matrix_or_zero, matrices_at, lines_fit, rows_from, columns_to, rep_written, map_written}
+use Rattle.script_answers.specs.Written.{arrow_names, vertex_names, rows_at_name, rows_fit, matrix_or_zero, matrices_at, lines_fit, rows_from, columns_to, rep_written, map_written}
 use Rattle.written_modules.specs.Lines.{HoldRows, AreSmall}
 use Rattle.written_modules.proofs.Fitting.{rows_fit_at, rows_hold_at}
 use Rattle.written_modules.proofs.Rows.{shape_of}
 
 -- two counts of at most 256
 pub few_entries : (m n : ℕ) → m ≤ 256 → n ≤ 256 → m * n ≤ most_entries
-few_entries m n a b = let c = Rattle.std.proofs.Common.mul-le-mul_right n a in let d = Rattle.std.proofs.Common.mul-le-mul_right 256 b in let e = Rattle.std.proofs.Common.mul-comm 256 n in omega (arith, c, d, e)
+few_entries m n a b = let c = mul-le-mul_right n a in omega (arith, b, c)
 
 pub matrices_shape : (q : Gf) (names : List (List ℕ)) (m n : ℕ → ℕ) (lines : List AtLine) (count : ℕ) → length names ≡ count → ((i : ℕ) → m i ≤ 256) → ((i : ℕ) → n i ≤ 256) → HoldRows q lines → lines_fit names m n lines ≡ true
     → AreMatrices q count m n (matrices_at q names m n lines)
@@ -78,3 +79,37 @@ map_shape_is h a b lines small few all fit =
 pub vertices_at : (side : Side) (h : Header) → (algebra_at side h).quiver.vertices ≡ vertex_count h.quiver
 vertices_at Right h = refl
 vertices_at Left h = refl
+
+-- the matrix at name i, by lists of counts
+abbrev pub matrix_named : Gf → List (List ℕ) → List ℕ → List ℕ → List AtLine → ℕ → PlainMatrix
+matrix_named q names rows cols lines i = matrix_or_zero q (slice_index rows i) (slice_index cols i) (rows_at_name lines (slice_index_or names i []))
+
+pub named_is : (q : Gf) (names : List (List ℕ)) (rows cols : List ℕ) (lines : List AtLine) (i m n : ℕ) (name : List ℕ) (a : PlainMatrix) → i < length names → length rows ≡ length names → length cols ≡ length names
+    → m ≡ slice_index_or rows i m → n ≡ slice_index_or cols i n → name ≡ slice_index_or names i name → a ≡ matrix_or_zero q m n (rows_at_name lines name) → a ≡ matrix_named q names rows cols lines i
+named_is q names rows cols lines i m n name a l b c e f g is =
+    is ∙ ap₂ (λ m n. matrix_or_zero q m n (rows_at_name lines name)) (e ∙ get_or_default_zero rows i m (omega (arith, l, b))) (f ∙ get_or_default_zero cols i n (omega (arith, l, c)))
+    ∙ ap (λ (name : List ℕ). matrix_or_zero q (slice_index rows i) (slice_index cols i) (rows_at_name lines name)) (g ∙ get_or_default names i name [] l)
+
+pub fit_here : (names : List (List ℕ)) (rows cols : List ℕ) (lines : List AtLine) (i m n : ℕ) (name : List ℕ) → i < length names → length rows ≡ length names → length cols ≡ length names
+    → m ≡ slice_index_or rows i m → n ≡ slice_index_or cols i n → name ≡ slice_index_or names i name → lines_fit names (slice_index rows) (slice_index cols) lines ≡ true
+    → (rows_at_name lines name ≡ [] → ⊥) → rows_fit m n (rows_at_name lines name) ≡ true
+fit_here names rows cols lines i m n name l b c e f g fit some =
+    let at : name ≡ get_or names i [] = g ∙ get_or_default names i name [] l in
+    let row : m ≡ slice_index rows i = e ∙ get_or_default_zero rows i m (omega (arith, l, b)) in
+    let col : n ≡ slice_index cols i = f ∙ get_or_default_zero cols i n (omega (arith, l, c)) in
+    ap (λ (name : List ℕ). rows_fit m n (rows_at_name lines name)) at ∙ ap₂ (λ m n. rows_fit m n (rows_at_name lines (get_or names i []))) row col
+    ∙ rows_fit_at names (slice_index rows) (slice_index cols) lines fit i l (subst (λ (name : List ℕ). rows_at_name lines name ≡ [] → ⊥) at some)
+
+pub size_here : (rows cols : List ℕ) (i m n : ℕ) → AreSmall rows → AreSmall cols → i < length rows → i < length cols → m ≡ slice_index_or rows i m → n ≡ slice_index_or cols i n → m * n ≤ most_entries
+size_here rows cols i m n a b l k e f =
+    few_entries m n (let r = e ∙ get_or_default_zero rows i m l in let s = a.at i in omega (arith, r, s)) (let r = f ∙ get_or_default_zero cols i n k in let s = b.at i in omega (arith, r, s))
+
+-- counts at arrows are small
+pub small_rows : (h : Header) (dims counts : List ℕ) → dimension dims ≤ most_dimension → slice_index counts ≡ rows_from h dims → AreSmall counts
+small_rows h dims counts small e = record { at = λ i. subst (λ (f : ℕ → ℕ). f i ≤ 256) (sym e) (dim_at_small (quiver_of h.quiver) dims small _) }
+
+pub small_cols : (h : Header) (dims counts : List ℕ) → dimension dims ≤ most_dimension → slice_index counts ≡ columns_to h dims → AreSmall counts
+small_cols h dims counts small e = record { at = λ i. subst (λ (f : ℕ → ℕ). f i ≤ 256) (sym e) (dim_at_small (quiver_of h.quiver) dims small _) }
+
+pub small_dims : (dims : List ℕ) → dimension dims ≤ most_dimension → AreSmall dims
+small_dims dims small = record { at = dim_small dims small }

@@ -46,7 +46,8 @@ pub(crate) fn names_among(known: &Seq<Name>, lines: &Seq<AtLine>) -> Result<(), 
     for j in 0..lines.len() {
         let name = &lines[j].name;
         if !is_among(known, name) {
-            return Err(Stop::Refused(unknown(name)?));
+            let why = unknown(name)?;
+            return Err(Stop::Refused(why));
         }
     }
     Ok(())

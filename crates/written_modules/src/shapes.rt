@@ -1,5 +1,5 @@
 //! Whether lines have the shapes of the matrices at their names.
-ghost use Rattle.std.specs.Prelude.{ℕ, ◌≡◌, ◌<◌, ◌≤◌, ◌&&◌, length, slice_index, slice_index_or, nat_eq, MatchBool, true, false, []};
+ghost use Rattle.std.specs.Prelude.{ℕ, ◌≡◌, ◌<◌, ◌≤◌, ◌&&◌, length, slice_index, slice_index_or, nat_eq, IfOk, MatchBool, true, false, []};
 ghost use Rattle.std.specs.Cmp.Lexicographic.{pointwise};
 ghost use Rattle.report_types.specs.declared.reports.Why.TheVariants as why;
 ghost use Rattle.script_answers.specs.FirstTests.{unless, all_different};
@@ -102,7 +102,8 @@ pub(crate) fn shapes_fit(
 ) -> Result<(), Stop>
     requires rows { length rows.now ≡ length names.now }
     requires cols { length cols.now ≡ length names.now }
-    ensures { Tested (unless (all_different (line_names lines.now) && lines_fit names.now (slice_index rows.now) (slice_index cols.now) lines.now) why.Shape) result }
+    ensures tested { Tested (unless (all_different (line_names lines.now) && lines_fit names.now (slice_index rows.now) (slice_index cols.now) lines.now) why.Shape) result }
+    ensures fit { IfOk result (λ _. lines_fit names.now (slice_index rows.now) (slice_index cols.now) lines.now ≡ true) }
 {
     if !are_different(lines) {
         return Err(Stop::Refused(Why::Shape));
