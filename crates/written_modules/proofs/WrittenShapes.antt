@@ -1,6 +1,6 @@
 -- What is written has the shape of a module, and of a map.
 use Rattle.std.proofs.Common.{ℕ, zero, suc, ◌≡◌, ◌<◌, ◌≤◌, ◌+◌, ◌*◌, Bool, true, false, List, [], ◌∷◌, ◌++◌, length, get_or, refl, sym, ap, ap₂, ◌∙◌, subst, arith, mul-le-mul_right}
-use Rattle.std.specs.Prelude.{slice_index, slice_index_or, nat_eq, ◌&&◌}
+use Rattle.std.specs.Prelude.{slice_index, slice_index_or, nat_eq, ◌&&◌, Option}
 use Rattle.std.proofs.lemmas.List.{get_or_default, length-map}
 use Rattle.std.proofs.lemmas.Grind.{get_or_default_zero}
 use Rattle.linear_algebra.specs.Field.{Gf}
@@ -15,14 +15,22 @@ use Rattle.module_types.specs.declared.Side.{Side}
 use Rattle.module_types.specs.declared.Side.TheVariants.{Right, Left}
 use Rattle.module_types.specs.declared.Module.{Module}
 use Rattle.module_types.specs.Algebras.{algebra_at}
-use Rattle.module_types.specs.Readings.{dim_at}
+use Rattle.module_types.specs.Readings.{dim_at, read, read_beside, family_of}
 use Rattle.module_types.specs.Shapes.{HasShape, AreMatrices, IsModule, IsMap, dimension, most_dimension}
 use Rattle.module_checks.proofs.Sides.{dim_small}
 use Rattle.module_faults.specs.MapFaults.{HasMapShape}
 use Rattle.report_types.specs.WordDimensions.{dim_of}
 use Rattle.script_types.specs.declared.AtLine.{AtLine}
-use Rattle.script_answers.specs.Written.{arrow_names, vertex_names, rows_at_name, rows_fit, matrix_or_zero, matrices_at, lines_fit, rows_from, columns_to, rep_written, map_written}
+use Rattle.report_types.specs.declared.reports.Why.{Why}
+use Rattle.report_types.specs.declared.reports.Why.TheVariants as why
+use Rattle.script_answers.specs.FirstTests.{unless, all_different}
+use Rattle.script_answers.specs.Refusals.{map_shape, map_holds, rep_holds}
+use Rattle.script_answers.specs.ZeroTests.{commutes}
+use Rattle.script_answers.specs.Written.{arrow_names, vertex_names, line_names, rows_at_name, rows_fit, matrix_or_zero, matrices_at, lines_fit, rows_from, columns_to, rep_written, map_written}
 use Rattle.written_modules.specs.Lines.{HoldRows, AreSmall}
+use Rattle.written_modules.specs.Tests.{StopsFor}
+use Rattle.written_modules.specs.declared.stops.Stop.{Stop}
+use Rattle.written_modules.proofs.Counts.{dims_are}
 use Rattle.written_modules.proofs.Fitting.{rows_fit_at, rows_hold_at}
 use Rattle.written_modules.proofs.Rows.{shape_of}
 
@@ -113,3 +121,45 @@ small_cols h dims counts small e = record { at = λ i. subst (λ (f : ℕ → �
 
 pub small_dims : (dims : List ℕ) → dimension dims ≤ most_dimension → AreSmall dims
 small_dims dims small = record { at = dim_small dims small }
+
+-- ---- answers by lists of counts
+
+pub stops_by : (t r : Option Why) (stop : Stop) → t ≡ r → StopsFor t stop → StopsFor r stop
+stops_by t r stop e s = subst (λ t. StopsFor t stop) e s
+
+-- a map by the dimensions of its modules
+module _ (h : Header) (a b : Module) (lines : List AtLine) (first : length a.dims ≡ vertex_count h.quiver) (second : length b.dims ≡ vertex_count h.quiver) where
+  pub map_fit_is : lines_fit (vertex_names h) (slice_index a.dims) (slice_index b.dims) lines ≡ lines_fit (vertex_names h) (dim_of h a) (dim_of h b) lines
+  map_fit_is = fit_by (vertex_names h) (dim_of h a) (dim_of h b) a.dims b.dims lines (dims_are h a first) (dims_are h b second)
+
+  pub map_shape_test : unless (all_different (line_names lines) && lines_fit (vertex_names h) (slice_index a.dims) (slice_index b.dims) lines) why.Shape ≡ map_shape h a b lines
+  map_shape_test = ap (λ fit. unless (all_different (line_names lines) && fit) why.Shape) map_fit_is
+
+  pub map_is : matrices_at h.field (vertex_names h) (slice_index a.dims) (slice_index b.dims) lines ≡ map_written h a b lines
+  map_is = matrices_by h.field (vertex_names h) (dim_of h a) (dim_of h b) a.dims b.dims lines (dims_are h a first) (dims_are h b second)
+
+-- the test of its squares
+pub squares_by : (h : Header) (a b : Module) (lines : List AtLine) (matrices : List PlainMatrix) → matrices ≡ map_written h a b lines
+    → commutes (read h a) (read_beside h a b) (family_of (read h a) (read_beside h a b) matrices) ≡ map_holds h a b lines
+squares_by h a b lines matrices e = ap (λ matrices. commutes (read h a) (read_beside h a b) (family_of (read h a) (read_beside h a b) matrices)) e
+
+pub map_shape_by : (h : Header) (a b : Module) (matrices other : List PlainMatrix) → matrices ≡ other → HasMapShape h a b other → HasMapShape h a b matrices
+map_shape_by h a b matrices other e s = subst (HasMapShape h a b) (sym e) s
+
+-- a module by counts at arrows
+pub rep_is : (h : Header) (dims copy rows cols : List ℕ) (names : List (List ℕ)) (lines : List AtLine) (matrices : List PlainMatrix) → copy ≡ dims → names ≡ arrow_names h → slice_index rows ≡ rows_from h dims → slice_index cols ≡ columns_to h dims
+    → matrices ≡ matrices_at h.field names (slice_index rows) (slice_index cols) lines → record { side = Right; dims = copy; matrices = matrices } ≡ rep_written h dims lines
+rep_is h dims copy rows cols names lines matrices e n a b is =
+    ap₂ (λ (dims : List ℕ) (matrices : List PlainMatrix). record { side = Right; dims = dims; matrices = matrices }) e
+    (is ∙ ap (λ (names : List (List ℕ)). matrices_at h.field names (slice_index rows) (slice_index cols) lines) n ∙ matrices_by h.field (arrow_names h) (rows_from h dims) (columns_to h dims) rows cols lines a b)
+
+pub rep_fit_is : (h : Header) (dims rows cols : List ℕ) (names : List (List ℕ)) (lines : List AtLine) → names ≡ arrow_names h → slice_index rows ≡ rows_from h dims → slice_index cols ≡ columns_to h dims
+    → lines_fit (arrow_names h) (rows_from h dims) (columns_to h dims) lines ≡ true → lines_fit names (slice_index rows) (slice_index cols) lines ≡ true
+rep_fit_is h dims rows cols names lines n a b fit =
+    ap (λ (names : List (List ℕ)). lines_fit names (slice_index rows) (slice_index cols) lines) n ∙ fit_by (arrow_names h) (rows_from h dims) (columns_to h dims) rows cols lines a b ∙ fit
+
+pub module_by : (h : Header) (m other : Module) → m ≡ other → IsModule h.field (quiver_of h.quiver) other → IsModule h.field (quiver_of h.quiver) m
+module_by h m other e s = subst (IsModule h.field (quiver_of h.quiver)) (sym e) s
+
+pub holds_by : (h : Header) (m other : Module) → m ≡ other → rep_holds h m ≡ rep_holds h other
+holds_by h m other e = ap (rep_holds h) e
