@@ -1,5 +1,5 @@
 -- Counts of rows and of columns, place by place.
-use Rattle.std.proofs.Common.{ℕ, zero, ◌≡◌, ◌<◌, ◌≤◌, ◌+◌, inl, inr, List, [], ◌∷◌, ◌++◌, length, get_or, sym, ap, ◌∙◌, arith}
+use Rattle.std.proofs.Common.{ℕ, ◌≡◌, ◌<◌, ◌≤◌, ◌+◌, inl, inr, List, [], ◌∷◌, ◌++◌, length, sym, ap, ◌∙◌, arith}
 use Rattle.std.specs.Prelude.{slice_index, slice_index_or}
 use mathlib.Core.Path.{fun_ext}
 use Rattle.std.proofs.lemmas.Bool.{cases_lt, cases_eq}
@@ -9,7 +9,7 @@ use Rattle.quiver_paths.specs.Quiver.{vertex_count, arrow_count, source, target,
 use Rattle.path_algebra.specs.declared.Header.{Header}
 use Rattle.bound_algebra.specs.TypedPaths.{quiver_of, source_past, target_past}
 use Rattle.module_types.specs.declared.Module.{Module}
-use Rattle.module_types.specs.Readings.{dim_at, dim_past}
+use Rattle.module_types.specs.Readings.{dim_past}
 use Rattle.module_checks.proofs.HomRank.{dim_at-is}
 use Rattle.report_types.specs.WordDimensions.{dim_of}
 use Rattle.script_answers.specs.Written.{rows_from, columns_to}

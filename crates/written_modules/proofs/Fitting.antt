@@ -1,7 +1,6 @@
 -- Whether lines have different names and fit at them.
-use Rattle.std.proofs.Common.{ℕ, zero, suc, ◌≡◌, ◌<◌, ◌≤◌, ◌+◌, Bool, true, false, inl, inr, List, [], ◌∷◌, length, drop, map, get_or, cond, refl, sym, ap, ◌∙◌, subst, arith, add-one}
-use Rattle.std.specs.Prelude.{All, Option, Some, None, find, nat_eq, ◌&&◌, ◌||◌, not, slice_index_or}
-use Rattle.std.specs.List.{list_any, list_all}
+use Rattle.std.proofs.Common.{ℕ, zero, suc, ◌≡◌, ◌<◌, ◌≤◌, ◌+◌, Bool, true, false, inl, inr, List, [], ◌∷◌, length, drop, get_or, cond, refl, sym, ap, ◌∙◌, subst, arith, add-one}
+use Rattle.std.specs.Prelude.{All, Some, find, nat_eq, ◌&&◌, ◌||◌, not, slice_index_or}
 use Rattle.std.specs.Cmp.Lexicographic.{pointwise}
 use Rattle.std.proofs.Math.ListN.{drop_of_length-le}
 use Rattle.std.proofs.Math.Seq.{drop-cons}
@@ -15,6 +14,7 @@ use Rattle.script_types.specs.Ranges.{IsRow}
 use Rattle.script_answers.specs.FirstTests.{all_different}
 use Rattle.script_answers.specs.Written.{line_names, line_rows, rows_at_name, rows_fit, line_fits, lines_fit}
 use Rattle.written_modules.specs.Lines.{HoldRows}
+use Rattle.written_modules.proofs.Firsts.{find_first, find_none}
 
 -- ---- names
 
@@ -142,10 +142,10 @@ none_more name lines n l inside e apart u = record {
 }
 
 pub found_at : (name : List ℕ) (lines : List AtLine) (j : ℕ) (d : AtLine) → j < length lines → pointwise nat_eq name (get_or lines j d).name ≡ true → NoneNamed name lines j → rows_at_name lines name ≡ (get_or lines j d).rows
-found_at name lines j d b passes before = ap line_rows (Rattle.written_modules.proofs.Firsts.find_first (λ (l : AtLine). pointwise nat_eq name l.name) lines j d b passes (λ k m. before.at k d m))
+found_at name lines j d b passes before = ap line_rows (find_first (λ (l : AtLine). pointwise nat_eq name l.name) lines j d b passes (λ k m. before.at k d m))
 
 pub found_none : (name : List ℕ) (lines : List AtLine) (n : ℕ) → length lines ≤ n → NoneNamed name lines n → rows_at_name lines name ≡ []
-found_none name lines n b before = ap line_rows (Rattle.written_modules.proofs.Firsts.find_none (λ (l : AtLine). pointwise nat_eq name l.name) lines (record { name = []; rows = [] }) (λ k m. before.at k (record { name = []; rows = [] }) (omega (arith, b, m))))
+found_none name lines n b before = ap line_rows (find_none (λ (l : AtLine). pointwise nat_eq name l.name) lines (record { name = []; rows = [] }) (λ k m. before.at k (record { name = []; rows = [] }) (omega (arith, b, m))))
 
 -- the line that is found
 pub line_found : (name : List ℕ) (lines : List AtLine) (j : ℕ) (x : AtLine) → j < length lines → x ≡ slice_index_or lines j x → pointwise nat_eq name x.name ≡ true → NoneNamed name lines j → (d : AtLine) → rows_at_name lines name ≡ (slice_index_or lines j d).rows

@@ -1,6 +1,6 @@
 -- The first relation, and the first path of the bound's length, that do not act as zero: what the tests of a module say.
-use Rattle.std.proofs.Common.{ℕ, ◌≡◌, ◌<◌, ◌+◌, ◌-◌, Bool, true, false, inl, inr, List, [], ◌∷◌, length, get_or, Option, Some, None, refl, sym, ap, ◌∙◌, subst, arith}
-use Rattle.std.specs.Prelude.{Contains, find, position, not, slice_index_or, MatchOption}
+use Rattle.std.proofs.Common.{ℕ, ◌≡◌, ◌<◌, ◌+◌, ◌-◌, false, [], ◌∷◌, length, get_or, Option, Some, None, refl, sym, ap, ◌∙◌, subst, arith}
+use Rattle.std.specs.Prelude.{not, MatchOption}
 use Rattle.std.proofs.lemmas.Bool.{not_from_true, not_from_false, false_from_ne_true}
 use Rattle.std.proofs.lemmas.List.Elements.{Contains-get_or, at_from_Contains}
 use Rattle.linear_algebra.specs.Matrix.{zeros}
@@ -14,13 +14,12 @@ use Rattle.path_algebra.specs.declared.Relation.{Relation}
 use Rattle.path_algebra.specs.declared.Header.{Header}
 use Rattle.path_algebra.specs.Allowed.{IsAllowed}
 use Rattle.representations.specs.Quiver.{Path as TypedPath}
-use Rattle.representations.specs.Rep.{Rep, along}
+use Rattle.representations.specs.Rep.{Rep}
 use Rattle.bound_algebra.specs.TypedPaths.{quiver_of, arrows_of, path_of}
 use Rattle.bound_algebra.specs.BoundAlgebra.{relation_at}
 use Rattle.bound_algebra.specs.PathMatrices.{path_matrix}
 use Rattle.bound_algebra.proofs.TypedPaths.{length-arrows_of, arrows_of-path_of}
 use Rattle.bound_algebra.proofs.PathMatrices.{path_matrix-typed}
-use Rattle.module_types.specs.declared.Side.{Side}
 use Rattle.module_types.specs.declared.Side.TheVariants.{Right}
 use Rattle.module_types.specs.declared.Module.{Module}
 use Rattle.module_types.specs.Algebras.{algebra_at}
@@ -29,8 +28,7 @@ use Rattle.module_types.specs.Shapes.{IsModule}
 use Rattle.module_checks.specs.PathImages.{LongPathsActAsZero}
 use Rattle.module_faults.specs.ModuleFaults.{IsFirstFailing}
 use Rattle.module_faults.specs.PathActions.{IsFirstAlong, IsFirstLongPath}
-use Rattle.module_faults.specs.RelationActions.{RelationIsZero, IsRelationZero, AreRelationsZero}
-use Rattle.report_types.specs.declared.reports.Why.{Why}
+use Rattle.module_faults.specs.RelationActions.{RelationIsZero, AreRelationsZero}
 use Rattle.report_types.specs.declared.reports.Why.TheVariants as why
 use Rattle.script_answers.specs.Refusals.{rep_holds}
 use Rattle.script_answers.specs.ZeroTests.{relation_is_zero, path_is_zero, relation_fails, bound_fails, relations_hold, bound_holds}

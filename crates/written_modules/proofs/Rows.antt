@@ -1,17 +1,17 @@
 -- The rows that a line holds, one by one, as the rows of a matrix.
-use Rattle.std.proofs.Common.{ℕ, zero, suc, ◌≡◌, ◌<◌, ◌≤◌, ◌+◌, ◌*◌, ◌-◌, Bool, true, false, inl, inr, List, [], ◌∷◌, ◌++◌, length, take, get_or, refl, sym, ap, ◌∙◌, subst, arith, mul-le-mul_right, suc-mul, add-one}
+use Rattle.std.proofs.Common.{ℕ, zero, suc, ◌≡◌, ◌<◌, ◌≤◌, ◌+◌, ◌*◌, ◌-◌, Bool, true, false, inl, inr, List, [], ◌∷◌, ◌++◌, length, take, get_or, replicate, refl, sym, ap, ◌∙◌, subst, arith, mul-le-mul_right, suc-mul, add-one}
 use Rattle.std.specs.Prelude.{All, nat_eq, ◌&&◌, not, slice_index}
 use Rattle.std.specs.List.{list_all}
 use Rattle.std.proofs.lemmas.Bool.{cases_lt, true≢false, eqb-true}
-use Rattle.std.proofs.lemmas.List.{length-append, get_or_append_left, get_or-append-add, get_or_push, take_more, take_all, get_or_default}
+use Rattle.std.proofs.lemmas.List.{length-append, get_or_append_left, get_or-append-add, get_or_push, take_more, take_all, get_or_default, get_or_past, length-replicate}
 use Rattle.std.proofs.lemmas.List.Elements.{All-get_or}
 use Rattle.linear_algebra.specs.Field.{Gf, order}
 use Rattle.linear_algebra.specs.FieldLaws.{order-pos}
-use Rattle.linear_algebra.specs.Rows.{list_of, rows_of, entry, IsGrid}
+use Rattle.linear_algebra.specs.Rows.{list_of, rows_of, entry}
 use Rattle.linear_algebra.proofs.Rows.{length-rows_of, row-rows_of, list_of-is, list_of-same}
 use Rattle.fp_linear.specs.Matrix.{PlainMatrix, plain, zero_rows, IsMatrix, most_entries}
 use Rattle.fp_linear.specs.Slices.{AreElements}
-use Rattle.fp_linear.proofs.Matrices.{IsMatrix-held, rows_of-zeros}
+use Rattle.fp_linear.proofs.Matrices.{IsMatrix-held, rows_of-zeros, zero_at}
 use Rattle.script_types.specs.Ranges.{IsRow}
 use Rattle.module_types.specs.Shapes.{HasShape}
 use Rattle.script_answers.specs.Written.{rows_fit, matrix_or_zero}
@@ -69,7 +69,7 @@ append_elements q s r a b = record {
         let e : get_or (s ++ r) k 0 ≡ get_or r (k - length s) 0 = ap (λ i. get_or (s ++ r) i 0) (sym at) ∙ get_or-append-add s r (k - length s) 0 in
         elim (cases_lt (k - length s) (length r)) [
           | inl inside ↦ let z = All-get_or (λ e. e < order q) r (k - length s) 0 inside b in omega (arith, e, z)
-          | inr past ↦ let z = Rattle.std.proofs.lemmas.List.get_or_past r (k - length s) 0 past in let o = order-pos q in omega (arith, e, z, o)
+          | inr past ↦ let z = get_or_past r (k - length s) 0 past in let o = order-pos q in omega (arith, e, z, o)
         ]
   ];
 }
@@ -130,17 +130,17 @@ matrix_is q m n i rows entries a some fit e held is =
 
 zero_shape : (q : Gf) (m n : ℕ) → m * n ≤ most_entries → HasShape q m n (plain q m n (zero_rows m n))
 zero_shape q m n size =
-    let s : List ℕ = Rattle.std.proofs.Common.replicate (m * n) 0 in
+    let s : List ℕ = replicate (m * n) 0 in
     record {
       matrix = subst (λ (rows : List (List ℕ)). IsMatrix (plain q m n rows)) (rows_of-zeros m n s refl)
-          (IsMatrix-held q m n s (record { count = Rattle.std.proofs.lemmas.List.length-replicate {A = ℕ} (m * n) 0; small = record { small = λ k. small k }; fits = size }));
+          (IsMatrix-held q m n s (record { count = length-replicate {A = ℕ} (m * n) 0; small = record { small = λ k. small k }; fits = size }));
       field = refl;
       row_count = refl;
       col_count = refl;
     }
   where
-    small : (k : ℕ) → slice_index (Rattle.std.proofs.Common.replicate (m * n) 0) k < order q
-    small k = let o = order-pos q in let z = Rattle.fp_linear.proofs.Matrices.zero_at (m * n) (Rattle.std.proofs.Common.replicate (m * n) 0) k refl in omega (arith, o, z)
+    small : (k : ℕ) → slice_index (replicate (m * n) 0) k < order q
+    small k = let o = order-pos q in let z = zero_at (m * n) (replicate (m * n) 0) k refl in omega (arith, o, z)
 
 entry_small : (q : Gf) (rows : List (List ℕ)) → All (IsRow q) rows → (i j : ℕ) → entry rows i j < order q
 unfolding entry
@@ -149,9 +149,9 @@ entry_small q rows all i j =
     elim (cases_lt i (length rows)) [
       | inl l ↦ elim (cases_lt j (length (get_or rows i []))) [
         | inl m ↦ All-get_or (λ e. e < order q) (get_or rows i []) j 0 m (All-get_or (IsRow q) rows i [] l all).entries
-        | inr past ↦ let z = Rattle.std.proofs.lemmas.List.get_or_past (get_or rows i []) j 0 past in omega (arith, o, z)
+        | inr past ↦ let z = get_or_past (get_or rows i []) j 0 past in omega (arith, o, z)
       ]
-      | inr past ↦ let z : slice_index (get_or rows i []) j ≡ 0 = ap (λ (r : List ℕ). slice_index r j) (Rattle.std.proofs.lemmas.List.get_or_past rows i [] past) in omega (arith, o, z)
+      | inr past ↦ let z : slice_index (get_or rows i []) j ≡ 0 = ap (λ (r : List ℕ). slice_index r j) (get_or_past rows i [] past) in omega (arith, o, z)
     ]
 
 pub shape_of : (q : Gf) (m n : ℕ) (rows : List (List ℕ)) → m * n ≤ most_entries → ((rows ≡ [] → ⊥) → rows_fit m n rows ≡ true) → All (IsRow q) rows → HasShape q m n (matrix_or_zero q m n rows)

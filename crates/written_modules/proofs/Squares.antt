@@ -1,6 +1,6 @@
 -- The first arrow with whose matrices those of a map do not commute: what the tests of a map say.
-use Rattle.std.proofs.Common.{ℕ, ◌≡◌, ◌<◌, List, true, false, length, get_or, Option, Some, None, refl, sym, ap, ◌∙◌, subst, arith}
-use Rattle.std.specs.Prelude.{find, not}
+use Rattle.std.proofs.Common.{ℕ, ◌≡◌, ◌<◌, List, true, false, length, get_or, Some, None, sym, ap, ◌∙◌, subst, arith}
+use Rattle.std.specs.Prelude.{not}
 use Rattle.std.specs.List.{range_with_len}
 use Rattle.std.proofs.lemmas.Bool.{not_from_true, not_from_false, false_from_ne_true}
 use Rattle.std.proofs.lemmas.List.FromFn.{get_or-range_with_len, length-range_with_len}
@@ -11,12 +11,10 @@ use Rattle.path_algebra.specs.declared.Header.{Header}
 use Rattle.representations.specs.Quiver.{Quiver}
 use Rattle.representations.specs.Rep.{Rep}
 use Rattle.module_types.specs.declared.Module.{Module}
-use Rattle.module_types.specs.Algebras.{algebra_at}
 use Rattle.module_types.specs.Readings.{read, read_beside, family_of}
 use Rattle.module_checks.proofs.Sides.{arrows_at}
 use Rattle.claim_conditions.specs.Modules.{MapHolds}
 use Rattle.module_faults.specs.MapFaults.{FailsAtArrow}
-use Rattle.report_types.specs.declared.reports.Why.{Why}
 use Rattle.report_types.specs.declared.reports.Why.TheVariants as why
 use Rattle.script_answers.specs.ZeroTests.{same_matrix, not_hom, commutes}
 use Rattle.written_modules.proofs.Firsts.{find_first, find_none}

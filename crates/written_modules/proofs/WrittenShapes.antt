@@ -1,15 +1,14 @@
 -- What is written has the shape of a module, and of a map.
-use Rattle.std.proofs.Common.{ℕ, zero, suc, ◌≡◌, ◌<◌, ◌≤◌, ◌+◌, ◌*◌, Bool, true, false, List, [], ◌∷◌, ◌++◌, length, get_or, refl, sym, ap, ap₂, ◌∙◌, subst, arith, mul-le-mul_right}
-use Rattle.std.specs.Prelude.{slice_index, slice_index_or, nat_eq, ◌&&◌, Option}
+use Rattle.std.proofs.Common.{ℕ, zero, ◌≡◌, ◌<◌, ◌≤◌, ◌*◌, Bool, true, false, List, [], length, get_or, refl, sym, ap, ap₂, ◌∙◌, subst, arith, mul-le-mul_right, ltb, cond}
+use Rattle.std.specs.Prelude.{slice_index, slice_index_or, ◌&&◌, Option}
 use Rattle.std.proofs.lemmas.List.{get_or_default, length-map}
 use Rattle.std.proofs.lemmas.Grind.{get_or_default_zero}
 use Rattle.linear_algebra.specs.Field.{Gf}
-use Rattle.linear_algebra.specs.Rows.{list_of}
 use Rattle.linear_algebra.proofs.Rows.{length-list_of, get_or-list_of}
 use Rattle.fp_linear.specs.Matrix.{PlainMatrix, most_entries}
 use Rattle.quiver_paths.specs.Quiver.{vertex_count, arrow_count}
 use Rattle.path_algebra.specs.declared.Header.{Header}
-use Rattle.representations.specs.Quiver.{opposite}
+use Rattle.representations.specs.Quiver.{Quiver}
 use Rattle.bound_algebra.specs.TypedPaths.{quiver_of}
 use Rattle.module_types.specs.declared.Side.{Side}
 use Rattle.module_types.specs.declared.Side.TheVariants.{Right, Left}
@@ -56,11 +55,11 @@ pub matrices_by : (q : Gf) (names : List (List ℕ)) (m n : ℕ → ℕ) (rows c
 matrices_by q names m n rows cols lines a b = ap₂ (λ (m n : ℕ → ℕ). matrices_at q names m n lines) a b
 
 -- dimensions are small
-pub dim_at_small : (Q : Rattle.representations.specs.Quiver.Quiver) (dims : List ℕ) → dimension dims ≤ most_dimension → (v : ℕ) → dim_at Q dims v ≤ 256
+pub dim_at_small : (Q : Quiver) (dims : List ℕ) → dimension dims ≤ most_dimension → (v : ℕ) → dim_at Q dims v ≤ 256
 unfolding dim_at
-dim_at_small Q dims small v = chosen (Rattle.std.proofs.Common.ltb v Q.vertices)
+dim_at_small Q dims small v = chosen (ltb v Q.vertices)
   where
-    chosen : (b : Bool) → Rattle.std.proofs.Common.cond b (slice_index dims v) zero ≤ 256
+    chosen : (b : Bool) → cond b (slice_index dims v) zero ≤ 256
     chosen true = dim_small dims small v
     chosen false = omega arith
 

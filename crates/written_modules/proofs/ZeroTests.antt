@@ -1,7 +1,7 @@
 -- Tests of matrices by their entries tell what they are.
-use Rattle.std.proofs.Common.{ℕ, zero, suc, ◌≡◌, ◌<◌, ◌≤◌, Bool, true, false, inl, inr, refl, sym, ap, ◌∙◌, subst, arith, if◌then◌else◌, ltb}
-use Rattle.std.specs.Prelude.{nat_eq}
-use Rattle.std.proofs.lemmas.Bool.{and_from, cases_lt, cases_eq, eq-eqb, eqb-true, true≢false, cond-true, cond-false}
+use Rattle.std.proofs.Common.{ℕ, zero, suc, ◌≡◌, ◌<◌, Bool, true, false, inl, inr, refl, sym, ap, ◌∙◌, arith, if◌then◌else◌, ltb}
+use Rattle.std.specs.Prelude.{◌&&◌}
+use Rattle.std.proofs.lemmas.Bool.{and_from, cases_lt, cases_eq, eq-eqb, eqb-true, true≢false}
 use Rattle.linear_algebra.specs.Field.{Gf, mul}
 use Rattle.linear_algebra.specs.FieldLaws.{mul_zero}
 use Rattle.linear_algebra.specs.Matrix.{Mat, Mat-eq_below, zeros}
@@ -15,14 +15,14 @@ use Rattle.bound_algebra.specs.TypedPaths.{quiver_of}
 use Rattle.bound_algebra.specs.PathMatrices.{path_matrix}
 use Rattle.bound_algebra.proofs.PathMatrices.{zeros-at}
 use Rattle.module_types.specs.declared.Side.TheVariants.{Right}
-use Rattle.module_faults.specs.RelationActions.{short_entry, IsZeroOver, RelationIsZero}
-use Rattle.script_answers.specs.ZeroTests.{all_below, same_matrix, is_zero, relation_entry, relation_is_zero, path_is_zero}
+use Rattle.module_faults.specs.RelationActions.{short_entry, RelationIsZero}
+use Rattle.script_answers.specs.ZeroTests.{all_below, same_matrix, is_zero, relation_is_zero}
 
 pub all_pass : (n : ℕ) (test : ℕ → Bool) → ((i : ℕ) → i < n → test i ≡ true) → all_below n test ≡ true
 all_pass zero test h = refl
 all_pass (suc n) test h = and_from _ _ (all_pass n test (λ i l. h i (omega arith))) (h n (omega arith))
 
-both_parts : (x y : Bool) → (Rattle.std.specs.Prelude.◌&&◌ x y) ≡ true → (x ≡ true) × (y ≡ true)
+both_parts : (x y : Bool) → (x && y) ≡ true → (x ≡ true) × (y ≡ true)
 both_parts true y e = (refl, e)
 both_parts false y e = absurd (true≢false (sym e))
 

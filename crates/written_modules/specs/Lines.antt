@@ -1,5 +1,5 @@
 -- Lines of a script at arrows or at vertices: the refusal of an unknown name, and entries that are elements of the field.
-use Rattle.std.specs.Prelude.{ℕ, ◌<◌, ◌≤◌, List, All}
+use Rattle.std.specs.Prelude.{ℕ, ◌≤◌, List, All, slice_index}
 use Rattle.linear_algebra.specs.Field.{Gf}
 use Rattle.quiver_paths.specs.declared.names.Suffix.TheVariants as suffix
 use Rattle.report_types.specs.declared.reports.Why.{Why}
@@ -17,4 +17,4 @@ HoldRows f lines = All (λ (l : AtLine). All (IsRow f) l.rows) lines
 
 -- each of the counts is at most the largest dimension
 pub record AreSmall (counts : List ℕ) : Type 0 where
-  pub at : (i : ℕ) → Rattle.std.specs.Prelude.slice_index counts i ≤ 256
+  pub at : (i : ℕ) → slice_index counts i ≤ 256

@@ -150,7 +150,14 @@ fn rep_built(
     ensures small { IfOk result (λ m. IsSmallModule header.now m) }
 {
     let copy = dims.clone()?;
-    let matrices = written_matrices(alloc, header.field, names, &counts.rows, &counts.cols, lines)?;
+    let matrices = written_matrices(
+        alloc,
+        header.field,
+        names,
+        &counts.rows,
+        &counts.cols,
+        lines,
+    )?;
     let m = Module {
         side: Side::Right,
         dims: copy,

@@ -75,12 +75,7 @@ fn line_fits(names: &Seq<Name>, rows: &Seq<u32>, cols: &Seq<u32>, line: &AtLine)
 }
 
 /// Whether each line fits.
-fn lines_fit(
-    names: &Seq<Name>,
-    rows: &Seq<u32>,
-    cols: &Seq<u32>,
-    lines: &Seq<AtLine>,
-) -> bool
+fn lines_fit(names: &Seq<Name>, rows: &Seq<u32>, cols: &Seq<u32>, lines: &Seq<AtLine>) -> bool
     requires rows { length rows.now ≡ length names.now }
     requires cols { length cols.now ≡ length names.now }
     ensures { result ≡ lines_fit names.now (slice_index rows.now) (slice_index cols.now) lines.now }

@@ -1,4 +1,4 @@
-use Rattle.std.proofs.Common.{sym, ap, ◌∙◌, arith}
+use Rattle.std.proofs.Common.{◌++◌, ap, ◌∙◌, arith}
 use Rattle.std.proofs.lemmas.Bool.{false≢true}
 use Rattle.linear_algebra.specs.Rows.{rows_of}
 use Rattle.fp_linear.specs.Matrix.{plain}
@@ -10,7 +10,7 @@ loop-i-init c = first_none c.args.field c.args.cols c.args.written.now c.in_ok-e
 
 pub loop-i-preserved : goal.loop-i-preserved
 loop-i-preserved c = first_more c.args.field c.args.rows c.args.cols c.loop-i.i c.args.written.now c.index.result.now c.loop-i.entries.items c.extend_from_slice.new.self.items (λ e. false≢true (c.if-is_empty.ensures.1 e)) c.requires.fit c.requires.entries
-    (omega (arith, c.loop-i-test.true, c.len-i-end.ensures)) c.index.ensures (c.in_ok-extend_from_slice.ensures.items) c.loop-i.invariant
+    (omega (arith, c.loop-i-test.true, c.len-i-end.ensures)) c.index.ensures (c.in_ok-extend_from_slice.ensures.items ∙ ap (λ r. c.loop-i.entries.items ++ r) c.deref.ensures) c.loop-i.invariant
 
 pub returns : goal.returns
 returns c = matrix_is c.args.field c.args.rows c.args.cols c.loop-i.i c.args.written.now c.loop-i.entries.items c.in_ok-matrix.matrix (λ e. false≢true (c.if-is_empty.ensures.1 e)) c.requires.fit (omega (arith, c.loop-i-test.false, c.len-i-end.ensures, c.loop-i.auto.i-end)) c.loop-i.invariant

@@ -1,5 +1,4 @@
-use Rattle.std.proofs.Common.{◌++◌, ◌∷◌, [], ◌∙◌, sym, ap, arith}
-use Rattle.linear_algebra.specs.Rows.{list_of}
+use Rattle.std.proofs.Common.{◌++◌, ◌∷◌, [], ◌∙◌, sym, arith}
 use Rattle.module_faults.proofs.DualLists.{list_of-more, list_of-none}
 use Rattle.written_modules.proofs.WrittenShapes.{matrix_named, named_is, fit_here, size_here}
 use Rattle.written_modules.proofs.building.written_matrices.Goals as goal
@@ -20,5 +19,5 @@ matrix_at-requires-clause-size c =
 pub loop-i-preserved : goal.loop-i-preserved
 loop-i-preserved c =
     let is = named_is c.args.field c.args.names.now c.args.rows.now c.args.cols.now c.args.lines.now c.loop-i.i c.index.result.now c.index-in-loop-i.result.now c.index-in-loop-i-2.result.now c.in_ok-matrix.matrix
-        (omega (arith, c.loop-i-test.true, c.len-i-end.ensures)) c.requires.rows c.requires.cols c.index.ensures c.index-in-loop-i.ensures c.index-in-loop-i-2.ensures c.in_ok-matrix.ensures in
+    (omega (arith, c.loop-i-test.true, c.len-i-end.ensures)) c.requires.rows c.requires.cols c.index.ensures c.index-in-loop-i.ensures c.index-in-loop-i-2.ensures c.in_ok-matrix.ensures in
     c.in_ok-push.ensures.items ∙ (λ i. c.loop-i.invariant i ++ is i ∷ []) ∙ sym (list_of-more c.loop-i.i (matrix_named c.args.field c.args.names.now c.args.rows.now c.args.cols.now c.args.lines.now) c.in_ok-matrix.matrix)

@@ -1,4 +1,3 @@
-use Rattle.module_faults.proofs.SmallModules.{where_none}
 use Rattle.written_modules.proofs.Squares.{map_refused, map_passes}
 use Rattle.written_modules.proofs.holding.map_holds.Goals as goal
 

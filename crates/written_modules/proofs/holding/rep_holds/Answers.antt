@@ -1,10 +1,3 @@
-use Rattle.std.proofs.Common.{Some, None, sym, ap, subst}
-use Rattle.std.specs.Prelude.{MatchOption, length}
-use Rattle.module_types.specs.Readings.{read}
-use Rattle.module_checks.specs.PathImages.{LongPathsActAsZero}
-use Rattle.module_faults.specs.ModuleFaults.{IsFirstFailing}
-use Rattle.module_faults.specs.PathActions.{IsFirstLongPath}
-use Rattle.module_faults.specs.RelationActions.{AreRelationsZero}
 use Rattle.module_faults.proofs.SmallModules.{where_none, module_over}
 use Rattle.written_modules.proofs.Relations.{where_some, own_shape, rep_fails_relation, rep_fails_bound, rep_passes}
 use Rattle.written_modules.proofs.holding.rep_holds.Goals as goal

@@ -3,7 +3,7 @@ use Rattle.std.proofs.lemmas.List.Elements.{same_from_all_zip}
 use Rattle.module_types.specs.declared.Module.{Module}
 use Rattle.module_types.specs.declared.Side.TheVariants.{Right}
 use Rattle.script_answers.specs.Written.{rep_written}
-use Rattle.written_modules.proofs.WrittenShapes.{stops_by, small_rows, small_cols, rep_is, rep_fit_is, module_by, holds_by, rep_shape_is}
+use Rattle.written_modules.proofs.WrittenShapes.{stops_by, small_rows, small_cols, rep_is, module_by, holds_by, rep_shape_is}
 use Rattle.written_modules.proofs.reps.rep_built.Goals as goal
 
 pub written_matrices-requires-clause-row_counts : goal.written_matrices-requires-clause-row_counts

@@ -1,6 +1,3 @@
-use Rattle.std.proofs.Common.{ℕ, ◌≡◌, ◌<◌, [], false}
-use Rattle.std.specs.Prelude.{nat_eq, slice_index_or}
-use Rattle.std.specs.Cmp.Lexicographic.{pointwise}
 use Rattle.script_answers.specs.Written.{line_names}
 use Rattle.written_modules.proofs.Fitting.{NamesOtherThan}
 use Rattle.written_modules.proofs.shapes.is_named_before.Given as goal
