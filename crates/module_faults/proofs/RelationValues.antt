@@ -9,6 +9,7 @@ use Rattle.linear_algebra.specs.Sums.{sum_to, sum-same}
 use Rattle.linear_algebra.specs.Matrix.{Mat, Mat-eq_below, zeros, transpose}
 use Rattle.linear_algebra.proofs.LinearMaps.{combine-at}
 use Rattle.linear_algebra.proofs.MatrixLaws.{transpose_transpose, transpose_zeros}
+use Rattle.quiver_paths.specs.declared.Path.{Path}
 use Rattle.quiver_paths.specs.Path.{IsPath}
 use Rattle.path_algebra.specs.declared.Term.{Term}
 use Rattle.path_algebra.specs.declared.Relation.{Relation}
@@ -57,7 +58,7 @@ module _ (h : Header) (ok : IsAllowed h) (X : Rep h.field (quiver_of h.quiver)) 
   value_entry x y =
       combine-at r.terms r.coefficient (λ k. along X (r.path k)) x y
       ∙ sum-same h.field r.terms _ (λ k. mul h.field (term_at rel.terms k).coef ((path_matrix h.quiver X r.from r.to (term_at rel.terms k).path).at x y)) (λ k m. let n = subst (λ z. k < z) sum.count m in
-      ap₂ (mul h.field) (sum.coefficient k n) (ap (λ (m : Mat h.field (X.dim r.from) (X.dim r.to)). m.at x y) (sym (path_matrix-typed h.quiver X (r.path k) (term_at rel.terms k).path (runs k n) (ap (λ (p : Rattle.quiver_paths.specs.declared.Path.Path). p.arrows) (sum.path k n))))))
+      ap₂ (mul h.field) (sum.coefficient k n) (ap (λ (m : Mat h.field (X.dim r.from) (X.dim r.to)). m.at x y) (sym (path_matrix-typed h.quiver X (r.path k) (term_at rel.terms k).path (runs k n) (ap (λ (p : Path). p.arrows) (sum.path k n))))))
       ∙ ap (λ n. sum_to h.field n (λ k. mul h.field (term_at rel.terms k).coef ((path_matrix h.quiver X r.from r.to (term_at rel.terms k).path).at x y))) sum.count
       ∙ sum_over-places h.field _ rel.terms (λ t. mul h.field t.coef ((path_matrix h.quiver X r.from r.to t.path).at x y))
 

@@ -20,7 +20,7 @@ mod short_relations;
 
 pub use duals::dual_module;
 pub use long_paths::first_long_path;
-pub use maps::check_map;
+pub use maps::{check_map, first_failing_arrow};
 pub use modules::check_module;
 pub use relations::first_failing_relation;
 

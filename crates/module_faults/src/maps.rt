@@ -15,7 +15,7 @@ use path_algebra::Header;
 use seq::Seq;
 
 /// The first arrow with whose matrices those of a map do not commute; none where the map is a homomorphism.
-fn first_failing_arrow(
+pub fn first_failing_arrow(
     header: &Header,
     a: &Module,
     b: &Module,
