@@ -83,5 +83,9 @@ pub among_checked : (e was : Entries) (f : Map) (a b : Module) (h : Header) → 
     → IsSmallMap h a b f.matrices → IsMapAmong e f
 among_checked e was f a b h same s t x y k small =
     subst (λ (z : Entries). IsMapAmong z f) (sym same)
-    (record { source = s; target = t; small = subst (λ (h : Header). IsSmallMap h (module_at was f.source) (module_at was f.target) f.matrices) k
-        (subst (λ (m : Module). IsSmallMap h m (module_at was f.target) f.matrices) x (subst (λ (m : Module). IsSmallMap h a m f.matrices) y small)) })
+    (record {
+      source = s;
+      target = t;
+      small = subst (λ (h : Header). IsSmallMap h (module_at was f.source) (module_at was f.target) f.matrices) k
+          (subst (λ (m : Module). IsSmallMap h m (module_at was f.target) f.matrices) x (subst (λ (m : Module). IsSmallMap h a m f.matrices) y small));
+    })
