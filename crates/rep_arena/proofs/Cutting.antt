@@ -1,25 +1,24 @@
 -- Lists that are cut at a mark, and lists of what is kept behind it.
-use Rattle.std.proofs.Common.{ℕ, zero, suc, ◌<◌, ◌≤◌, ◌≡◌, ◌≢◌, ◌+◌, ◌-◌, ◌^◌, ◌⊎◌, List, [], ◌∷◌, ◌++◌, length, take, map, get_or, cond, nat_eq, eq-eqb, ne_eqb, eqb-true, inl, inr, refl, sym, ap, ap₂, ◌∙◌, arith, subst, append_assoc}
-use Rattle.std.specs.Prelude.{All, AllPairs, Contains, nat_le, true, false}
+use Rattle.std.proofs.Common.{ℕ, zero, suc, ◌<◌, ◌≤◌, ◌≡◌, ◌≢◌, ◌+◌, ◌-◌, ◌^◌, ◌⊎◌, List, [], ◌∷◌, ◌++◌, length, take, map, get_or, nat_eq, eq-eqb, ne_eqb, eqb-true, inl, inr, refl, sym, ap, ap₂, ◌∙◌, arith, subst, append_assoc}
+use Rattle.std.specs.Prelude.{All, AllPairs, Contains, nat_le}
 use Rattle.std.proofs.lemmas.Bool.{cases_lt, cases_eq, le-leb, lt-leb, cond-true, cond-false}
-use Rattle.std.proofs.lemmas.List.{length_push, length-take-le, length-append, length-map, take-append-le, take_all, get_or_default, get_or-take, get_or-map}
-use Rattle.std.proofs.lemmas.List.Elements.{All-nil, All-push, All-head, All-tail, All-take, All-map, All-append, All-weaker, All-get_or, All-contains, Contains-get_or}
+use Rattle.std.proofs.lemmas.List.{length_push, length-take-le, length-append, length-map, take-append-le, take_all, get_or-map}
+use Rattle.std.proofs.lemmas.List.Elements.{All-take, All-map, All-append, All-weaker, All-get_or, All-contains}
 use Rattle.std.proofs.lemmas.Map.Made.{IsDistinct-from_AllPairs}
 use Rattle.std.proofs.lemmas.Map.Steps.{length-le_from_distinct_below}
 use Rattle.std.proofs.lemmas.Map.Views.{Contains-from_any}
 use Rattle.std.proofs.lemmas.Bool.Decides.{Decides-eqb}
 use Rattle.std.proofs.Math.Seq.{take-append-add}
-use Rattle.path_algebra.specs.declared.Header.{Header}
 use Rattle.path_algebra.specs.Derivations.{IsNumber}
 use Rattle.quiver_paths.proofs.ListLemmas.{AllPairs-map, AllPairs-members, Contains-cons_cases, Contains-nil}
 use Rattle.module_types.specs.declared.Module.{Module}
 use Rattle.module_types.specs.declared.Map.{Map}
 use Rattle.module_faults.specs.ModuleFaults.{IsSmallModule}
-use Rattle.rep_arena.specs.Entries.{Entries, numbered, no_module, no_map, module_at, map_at, NamesModule, NamesMap, IsMapAmong, AreLawful, with_module, with_map}
+use Rattle.rep_arena.specs.Entries.{Entries, numbered, no_module, module_at, map_at, NamesModule, NamesMap, IsMapAmong, AreLawful, with_module, with_map}
 use Rattle.rep_arena.specs.declared.marks.RepId.{RepId}
 use Rattle.rep_arena.specs.declared.marks.MapId.{MapId}
 use Rattle.rep_arena.specs.Marks.{module_numbers, map_numbers, Heights, heights_of, Fits, cut_at, place_of, new_number, renumbered, MayKeep, kept}
-use Rattle.rep_arena.proofs.Numbered.{numbered-front, numbered-behind, numbered-take, All-numbered, number_more}
+use Rattle.rep_arena.proofs.Numbered.{numbered-front, numbered-behind, numbered-take}
 use Rattle.rep_arena.proofs.Stored.{stored_more}
 use Rattle.rep_arena.proofs.Lawful.{small_module, map_among, among_moved, among_more}
 

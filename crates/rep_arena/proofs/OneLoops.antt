@@ -4,23 +4,20 @@ use Rattle.std.specs.Prelude.{All, AllPairs, Contains, IsTrue}
 use Rattle.std.proofs.lemmas.List.Elements.{All-nil, All-cons, All-head, All-tail}
 use Rattle.linear_algebra.specs.Field.{Gf}
 use Rattle.quiver_paths.specs.declared.Path.{Path}
-use Rattle.quiver_paths.specs.declared.Quiver.{Quiver}
 use Rattle.quiver_paths.specs.declared.Arrow.{Arrow}
-use Rattle.quiver_paths.specs.Quiver.{vertex_count, arrow_count, source, target}
+use Rattle.quiver_paths.specs.Quiver.{arrow_count, source, target}
 use Rattle.quiver_paths.specs.Path.{IsPath, Leads}
 use Rattle.quiver_paths.specs.Name.{IsName, is_name_byte}
 use Rattle.quiver_paths.proofs.QuiverLemmas.{source_is, target_is, IsQuiver-from_lists}
-use Rattle.path_algebra.specs.declared.Relation.{Relation}
 use Rattle.path_algebra.specs.declared.Header.{Header}
 use Rattle.path_algebra.specs.declared.rules.Rule.{Rule}
-use Rattle.path_algebra.specs.declared.rules.Step.{Step}
 use Rattle.path_algebra.specs.Allowed.{IsAllowed, IsArrowName, IsRelation}
 use Rattle.path_algebra.specs.Rules.{AreElementTerms}
 use Rattle.path_algebra.specs.BasisClauses.{IsBasisClaim, HasFactor}
 use Rattle.module_types.specs.declared.Module.{Module}
 use Rattle.module_types.specs.declared.Map.{Map}
-use Rattle.rep_arena.specs.Entries.{Entries, NamesModule, NamesMap, module_at, map_at, no_entries, with_module}
-use Rattle.rep_arena.specs.Marks.{Heights, heights_of, Fits, MayKeep}
+use Rattle.rep_arena.specs.Entries.{Entries, NamesModule, NamesMap, map_at, no_entries, with_module}
+use Rattle.rep_arena.specs.Marks.{Heights, heights_of, MayKeep}
 use Rattle.rep_arena.specs.OneLoop.{one_loop, loops}
 
 one : {X : Type 0} (P : X → Type 0) (x : X) → P x → All P (x ∷ [])

@@ -1,4 +1,4 @@
-use Rattle.std.proofs.Common.{◌≡◌, ◌∙◌, refl, ap}
+use Rattle.std.proofs.Common.{◌∙◌, refl, ap}
 use Rattle.rep_arena.specs.Entries.{Entries, with_module}
 use Rattle.rep_arena.proofs.OneLoops.{may_keep_last}
 use Rattle.rep_arena.proofs.tests.last_kept.Goals as goal
