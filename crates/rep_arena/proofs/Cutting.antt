@@ -1,25 +1,24 @@
 -- Lists that are cut at a mark, and lists of what is kept behind it.
-use Rattle.std.proofs.Common.{ℕ, zero, suc, ◌<◌, ◌≤◌, ◌≡◌, ◌≢◌, ◌+◌, ◌-◌, ◌^◌, ◌⊎◌, List, [], ◌∷◌, ◌++◌, length, take, map, get_or, cond, nat_eq, eq-eqb, ne_eqb, eqb-true, inl, inr, refl, sym, ap, ap₂, ◌∙◌, arith, subst, append_assoc}
-use Rattle.std.specs.Prelude.{All, AllPairs, Contains, nat_le, true, false}
+use Rattle.std.proofs.Common.{ℕ, zero, suc, ◌<◌, ◌≤◌, ◌≡◌, ◌≢◌, ◌+◌, ◌-◌, ◌^◌, ◌⊎◌, List, [], ◌∷◌, ◌++◌, length, take, map, get_or, nat_eq, eq-eqb, ne_eqb, eqb-true, inl, inr, refl, sym, ap, ap₂, ◌∙◌, arith, subst, append_assoc}
+use Rattle.std.specs.Prelude.{All, AllPairs, Contains, nat_le}
 use Rattle.std.proofs.lemmas.Bool.{cases_lt, cases_eq, le-leb, lt-leb, cond-true, cond-false}
-use Rattle.std.proofs.lemmas.List.{length_push, length-take-le, length-append, length-map, take-append-le, take_all, get_or_default, get_or-take, get_or-map}
-use Rattle.std.proofs.lemmas.List.Elements.{All-nil, All-push, All-head, All-tail, All-take, All-map, All-append, All-weaker, All-get_or, All-contains, Contains-get_or}
+use Rattle.std.proofs.lemmas.List.{length_push, length-take-le, length-append, length-map, take-append-le, take_all, get_or-map}
+use Rattle.std.proofs.lemmas.List.Elements.{All-take, All-map, All-append, All-weaker, All-get_or, All-contains}
 use Rattle.std.proofs.lemmas.Map.Made.{IsDistinct-from_AllPairs}
 use Rattle.std.proofs.lemmas.Map.Steps.{length-le_from_distinct_below}
 use Rattle.std.proofs.lemmas.Map.Views.{Contains-from_any}
 use Rattle.std.proofs.lemmas.Bool.Decides.{Decides-eqb}
 use Rattle.std.proofs.Math.Seq.{take-append-add}
-use Rattle.path_algebra.specs.declared.Header.{Header}
 use Rattle.path_algebra.specs.Derivations.{IsNumber}
 use Rattle.quiver_paths.proofs.ListLemmas.{AllPairs-map, AllPairs-members, Contains-cons_cases, Contains-nil}
 use Rattle.module_types.specs.declared.Module.{Module}
 use Rattle.module_types.specs.declared.Map.{Map}
 use Rattle.module_faults.specs.ModuleFaults.{IsSmallModule}
-use Rattle.rep_arena.specs.Entries.{Entries, numbered, no_module, no_map, module_at, map_at, NamesModule, NamesMap, IsMapAmong, AreLawful}
+use Rattle.rep_arena.specs.Entries.{Entries, numbered, no_module, module_at, map_at, NamesModule, NamesMap, IsMapAmong, AreLawful, with_module, with_map}
 use Rattle.rep_arena.specs.declared.marks.RepId.{RepId}
 use Rattle.rep_arena.specs.declared.marks.MapId.{MapId}
 use Rattle.rep_arena.specs.Marks.{module_numbers, map_numbers, Heights, heights_of, Fits, cut_at, place_of, new_number, renumbered, MayKeep, kept}
-use Rattle.rep_arena.proofs.Numbered.{numbered-front, numbered-behind, numbered-take, All-numbered, number_more}
+use Rattle.rep_arena.proofs.Numbered.{numbered-front, numbered-behind, numbered-take}
 use Rattle.rep_arena.proofs.Stored.{stored_more}
 use Rattle.rep_arena.proofs.Lawful.{small_module, map_among, among_moved, among_more}
 
@@ -43,6 +42,21 @@ fits_all e a = record {
   sources = All-take (λ (f : Map). f.source ≤ length e.modules) (length e.maps) e.maps (All-weaker (IsMapAmong e) (λ (f : Map). f.source ≤ length e.modules) (λ f i. i.source.to) e.maps a.maps);
   targets = All-take (λ (f : Map). f.target ≤ length e.modules) (length e.maps) e.maps (All-weaker (IsMapAmong e) (λ (f : Map). f.target ≤ length e.modules) (λ f i. i.target.to) e.maps a.maps);
 }
+
+-- a mark that fits does so once there is an entry more
+pub fits-more_module : (e : Entries) (m : Module) (mark : Heights) → Fits e mark → Fits (with_module e m) mark
+fits-more_module e m mark fits = record { modules = let l = length_push e.modules m in omega (arith, fits.modules); maps = fits.maps; sources = fits.sources; targets = fits.targets }
+
+pub fits-more_map : (e : Entries) (f : Map) (mark : Heights) → Fits e mark → Fits (with_map e f) mark
+fits-more_map e f mark fits = record {
+  modules = fits.modules;
+  maps = let l = length_push e.maps f in omega (arith, fits.maps);
+  sources = subst (All (λ (g : Map). g.source ≤ mark.modules)) (sym same) fits.sources;
+  targets = subst (All (λ (g : Map). g.target ≤ mark.modules)) (sym same) fits.targets;
+}
+  where
+    same : take mark.maps (e.maps ++ f ∷ []) ≡ take mark.maps e.maps
+    same = take-append-le mark.maps e.maps (f ∷ []) fits.maps
 
 -- A map below a mark that fits is one among the modules below it.
 module _ (e : Entries) (mark : Heights) (a : AreLawful e) (fits : Fits e mark) where
@@ -118,9 +132,9 @@ pub few_behind : (mark last : ℕ) (ids : List ℕ) → mark ≤ last → All (I
 few_behind mark last ids inside a b d =
     let shifted = map (λ n. n - suc mark) ids in
     let few = length-le_from_distinct_below shifted (last - mark)
-        (IsDistinct-from_AllPairs Decides-eqb shifted (AllPairs-map (λ (a b : ℕ). a ≢ b) (λ n. n - suc mark) ids (AllPairs-members (λ (a b : ℕ). a ≢ b) (λ (a b : ℕ). (a - suc mark) ≢ (b - suc mark)) ids (λ x y m n d e. d (let p = All-contains (λ n. mark < n) ids x b m in let r = All-contains (λ n. mark < n) ids y b n in omega arith)) d)))
-        (λ q h. let c = Contains-from_any (λ x y e. eqb-true x y e) q shifted h in All-contains (λ n. n < last - mark) shifted q
-        (All-map (λ n. n < last - mark) (λ n. n - suc mark) ids (λ k d l. let p = a k d l in let r = b k d l in let t = p.to in omega arith)) c) in
+    (IsDistinct-from_AllPairs Decides-eqb shifted (AllPairs-map (λ (a b : ℕ). a ≢ b) (λ n. n - suc mark) ids (AllPairs-members (λ (a b : ℕ). a ≢ b) (λ (a b : ℕ). (a - suc mark) ≢ (b - suc mark)) ids (λ x y m n d e. d (let p = All-contains (λ n. mark < n) ids x b m in let r = All-contains (λ n. mark < n) ids y b n in omega arith)) d)))
+    (λ q h. let c = Contains-from_any (λ x y e. eqb-true x y e) q shifted h in All-contains (λ n. n < last - mark) shifted q
+    (All-map (λ n. n < last - mark) (λ n. n - suc mark) ids (λ k d l. let p = a k d l in let r = b k d l in let t = p.to in omega arith)) c) in
     (let c = length-map ids (λ n. n - suc mark) in omega arith)
 
 -- a number that is none of the first ones is none of the list
@@ -191,10 +205,11 @@ module _ (e : Entries) (mark : Heights) (ids numbers : List ℕ) (a : AreLawful 
       in_front l =
           let same = new_number-front mark.modules n ids l in
           let long = modules_length in
-          let front = front_length e mark a may.fits in
-          (record { from = (let f = i.from in omega arith); to = omega arith },
-          ap (numbered no_module (take mark.modules e.modules ++ map (module_at e) ids)) same ∙ numbered-front no_module (take mark.modules e.modules) (map (module_at e) ids) n (omega arith)
-          ∙ numbered-take no_module e.modules mark.modules n l)
+          let front = front_length e mark a may.fits in (
+            record { from = (let f = i.from in omega arith); to = omega arith },
+            ap (numbered no_module (take mark.modules e.modules ++ map (module_at e) ids)) same ∙ numbered-front no_module (take mark.modules e.modules) (map (module_at e) ids) n (omega arith)
+                ∙ numbered-take no_module e.modules mark.modules n l,
+          )
 
       behind_it : mark.modules < n → Contains ids n → IsNumber (length (take mark.modules e.modules ++ map (module_at e) ids)) (new_number mark.modules ids n) × (numbered no_module (take mark.modules e.modules ++ map (module_at e) ids) (new_number mark.modules ids n) ≡ module_at e n)
       behind_it g m =
@@ -203,11 +218,12 @@ module _ (e : Entries) (mark : Heights) (ids numbers : List ℕ) (a : AreLawful 
           let front = front_length e mark a may.fits in
           let found = place_in n ids m in
           let below = found.0 in
-          let at : mark.modules + suc (place_of n ids) - length (take mark.modules e.modules) ≡ suc (place_of n ids) = omega arith in
-          (record { from = omega arith; to = omega arith },
-          ap (numbered no_module (take mark.modules e.modules ++ map (module_at e) ids)) same
-          ∙ numbered-behind no_module (take mark.modules e.modules) (map (module_at e) ids) (mark.modules + suc (place_of n ids)) (omega arith)
-          ∙ ap (numbered no_module (map (module_at e) ids)) at ∙ get_or-map (module_at e) ids (place_of n ids) zero no_module below ∙ ap (module_at e) found.1)
+          let at : mark.modules + suc (place_of n ids) - length (take mark.modules e.modules) ≡ suc (place_of n ids) = omega arith in (
+            record { from = omega arith; to = omega arith },
+            ap (numbered no_module (take mark.modules e.modules ++ map (module_at e) ids)) same
+                ∙ numbered-behind no_module (take mark.modules e.modules) (map (module_at e) ids) (mark.modules + suc (place_of n ids)) (omega arith)
+                ∙ ap (numbered no_module (map (module_at e) ids)) at ∙ get_or-map (module_at e) ids (place_of n ids) zero no_module below ∙ ap (module_at e) found.1,
+          )
 
   kept_among : (gs : List Map) (n : ℕ) → NamesMap e n → ((map_at e n).source ≤ mark.modules) ⊎ Contains ids (map_at e n).source → ((map_at e n).target ≤ mark.modules) ⊎ Contains ids (map_at e n).target
       → IsMapAmong (record { header = e.header; modules = take mark.modules e.modules ++ map (module_at e) ids; maps = gs }) (renumbered mark.modules ids (map_at e n))

@@ -1,10 +1,10 @@
 -- Rows of the matrices of an entry.
-use Rattle.std.proofs.Common.{ℕ, ◌<◌, ◌≤◌, ◌≡◌, List, [], length, get_or, inl, inr, refl, sym, ap, ◌∙◌, arith, subst}
-use Rattle.std.specs.Prelude.{map, slice_index, slice_index_or}
+use Rattle.std.proofs.Common.{ℕ, ◌<◌, ◌≡◌, List, [], length, get_or, inl, inr, refl, sym, ap, ◌∙◌, arith, subst}
+use Rattle.std.specs.Prelude.{slice_index, slice_index_or}
 use Rattle.std.proofs.lemmas.Bool.{cases_lt}
-use Rattle.std.proofs.lemmas.List.{get_or-map, get_or_past, get_or_default}
+use Rattle.std.proofs.lemmas.List.{get_or-map, get_or_past}
 use Rattle.linear_algebra.specs.Field.{Gf, order}
-use Rattle.linear_algebra.specs.Rows.{IsRow, entry}
+use Rattle.linear_algebra.specs.Rows.{IsRow}
 use Rattle.linear_algebra.proofs.Rows.{row-entry}
 use Rattle.fp_linear.specs.Matrix.{PlainMatrix, plain}
 use Rattle.quiver_paths.specs.Quiver.{vertex_count, arrow_count}

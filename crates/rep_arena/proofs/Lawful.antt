@@ -1,9 +1,7 @@
 -- Lists of entries stay lawful where an entry is added.
-use Rattle.std.proofs.Common.{ℕ, zero, suc, ◌<◌, ◌≤◌, ◌≡◌, ◌+◌, ◌-◌, ◌^◌, List, [], ◌∷◌, ◌++◌, length, take, get_or, refl, sym, ap, ◌∙◌, arith, subst, append_assoc}
+use Rattle.std.proofs.Common.{ℕ, ◌<◌, ◌≤◌, ◌≡◌, ◌-◌, ◌^◌, List, [], ◌∷◌, ◌++◌, length, refl, sym, ap, ◌∙◌, arith, subst, append_assoc}
 use Rattle.std.proofs.lemmas.List.{length_push}
-use Rattle.std.proofs.lemmas.List.Elements.{All-nil, All-push, All-weaker, All-get_or, All-contains, Contains-get_or}
-use Rattle.std.specs.Prelude.{All}
-use Rattle.fp_linear.specs.Matrix.{PlainMatrix}
+use Rattle.std.proofs.lemmas.List.Elements.{All-nil, All-push, All-weaker}
 use Rattle.path_algebra.specs.declared.Header.{Header}
 use Rattle.path_algebra.specs.Allowed.{IsAllowed}
 use Rattle.path_algebra.specs.Derivations.{IsNumber}
@@ -83,5 +81,9 @@ pub among_checked : (e was : Entries) (f : Map) (a b : Module) (h : Header) → 
     → IsSmallMap h a b f.matrices → IsMapAmong e f
 among_checked e was f a b h same s t x y k small =
     subst (λ (z : Entries). IsMapAmong z f) (sym same)
-    (record { source = s; target = t; small = subst (λ (h : Header). IsSmallMap h (module_at was f.source) (module_at was f.target) f.matrices) k
-        (subst (λ (m : Module). IsSmallMap h m (module_at was f.target) f.matrices) x (subst (λ (m : Module). IsSmallMap h a m f.matrices) y small)) })
+    (record {
+      source = s;
+      target = t;
+      small = subst (λ (h : Header). IsSmallMap h (module_at was f.source) (module_at was f.target) f.matrices) k
+          (subst (λ (m : Module). IsSmallMap h m (module_at was f.target) f.matrices) x (subst (λ (m : Module). IsSmallMap h a m f.matrices) y small));
+    })

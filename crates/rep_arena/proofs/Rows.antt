@@ -1,11 +1,11 @@
 -- Entries of a matrix that are stored row by row.
-use Rattle.std.proofs.Common.{ℕ, zero, suc, ◌<◌, ◌≤◌, ◌≡◌, ◌+◌, ◌*◌, ◌-◌, List, [], ◌∷◌, ◌++◌, length, take, get_or, inl, inr, refl, sym, ap, ◌∙◌, arith, subst}
-use Rattle.std.proofs.lemmas.Bool.{cases_lt, cases_eq}
+use Rattle.std.proofs.Common.{ℕ, ◌<◌, ◌≡◌, ◌+◌, ◌*◌, ◌-◌, List, [], ◌∷◌, ◌++◌, length, take, get_or, inl, inr, refl, sym, ap, ◌∙◌, arith, subst}
+use Rattle.std.proofs.lemmas.Bool.{cases_lt}
 use Rattle.std.proofs.lemmas.Nat.{row_fits}
-use Rattle.std.proofs.lemmas.List.{ext_get_or, take_more, take_all, get_or_default, length_push, length-append, get_or_push, get_or_append_left, get_or-append_right, get_or-append-add}
+use Rattle.std.proofs.lemmas.List.{ext_get_or, take_more, take_all, length_push, length-append, get_or_push, get_or_append_left, get_or-append_right, get_or-append-add}
 use Rattle.linear_algebra.specs.Field.{Gf, order}
 use Rattle.linear_algebra.specs.FieldLaws.{order-pos}
-use Rattle.linear_algebra.specs.Rows.{rows_of, list_of, entry, IsRow}
+use Rattle.linear_algebra.specs.Rows.{rows_of, list_of}
 use Rattle.linear_algebra.proofs.Rows.{length-rows_of, row-rows_of, list_of-is, list_of-same, row-entry}
 use Rattle.fp_linear.specs.Slices.{AreElements}
 use Rattle.fp_linear.specs.Matrix.{PlainMatrix, plain, IsMatrix, HoldsMatrix}

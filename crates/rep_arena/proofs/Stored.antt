@@ -1,6 +1,6 @@
 -- Lists that are stored item by item.
-use Rattle.std.proofs.Common.{ℕ, ◌<◌, ◌≤◌, ◌≡◌, ◌+◌, List, [], ◌∷◌, ◌++◌, length, take, map, get_or, refl, sym, ap, ◌∙◌, arith, append_assoc}
-use Rattle.std.proofs.lemmas.List.{take_more, take_all, take_at, get_or_default, map-append}
+use Rattle.std.proofs.Common.{ℕ, ◌<◌, ◌≤◌, ◌≡◌, ◌+◌, List, [], ◌∷◌, ◌++◌, length, take, get_or, refl, sym, ap, ◌∙◌, append_assoc}
+use Rattle.std.proofs.lemmas.List.{take_more, take_all, take_at, get_or_default}
 
 -- one item more of a list, behind others
 pub stored_more : {X : Type 0} (before xs stored new : List X) (i : ℕ) (x y : X) → i < length xs → stored ≡ before ++ take i xs → x ≡ get_or xs i x → y ≡ x → new ≡ stored ++ y ∷ [] → new ≡ before ++ take (i + 1) xs

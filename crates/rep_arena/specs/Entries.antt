@@ -1,6 +1,6 @@
 -- What contracts see of a session and of an arena: the header that it was made for, and its modules and maps, which are numbered from 1.
 -- (Assem, Simson, Skowroński, volume 1, chapter III, 1.)
-use Rattle.std.specs.Prelude.{ℕ, zero, suc, ◌≡◌, ◌<◌, ◌-◌, ◌^◌, ◌∷◌, ◌++◌, List, [], length, All, slice_index_or}
+use Rattle.std.specs.Prelude.{ℕ, zero, suc, ◌<◌, ◌-◌, ◌^◌, ◌∷◌, ◌++◌, List, [], length, All, slice_index_or}
 use Rattle.path_algebra.specs.declared.Header.{Header}
 use Rattle.path_algebra.specs.Allowed.{IsAllowed}
 use Rattle.path_algebra.specs.Derivations.{IsNumber}

@@ -1,5 +1,5 @@
 -- Heights of the two lists of entries, and what is left where they are cut there.
-use Rattle.std.specs.Prelude.{ℕ, zero, suc, ◌≡◌, ◌<◌, ◌≤◌, ◌≢◌, ◌+◌, ◌++◌, ◌==◌, ◌⊎◌, if◌then◌else◌, List, [], ◌∷◌, length, take, map, All, AllPairs, Contains, nat_le}
+use Rattle.std.specs.Prelude.{ℕ, zero, suc, ◌<◌, ◌≤◌, ◌≢◌, ◌+◌, ◌++◌, ◌==◌, ◌⊎◌, if◌then◌else◌, List, [], ◌∷◌, length, take, map, All, AllPairs, Contains, nat_le}
 use Rattle.module_types.specs.declared.Map.{Map}
 use Rattle.rep_arena.specs.declared.marks.RepId.{RepId}
 use Rattle.rep_arena.specs.declared.marks.MapId.{MapId}

@@ -7,6 +7,8 @@ mod marks;
 mod readers;
 mod sessions;
 mod storing;
+#[cfg(test)]
+mod tests;
 mod views;
 
 pub use arenas::{Arena, CloseRefused};

@@ -1,7 +1,7 @@
-use Rattle.std.proofs.Common.{ℕ, ◌≡◌, ◌≤◌, ◌⊎◌, ◌++◌, ◌∙◌, Contains, ap, sym, take, length, subst}
+use Rattle.std.proofs.Common.{ℕ, ◌≤◌, ◌⊎◌, ◌++◌, ◌∙◌, Contains, ap, sym, take, length, subst}
 use Rattle.module_types.specs.declared.Map.{Map}
 use Rattle.rep_arena.specs.Entries.{numbered, no_map}
-use Rattle.rep_arena.specs.Marks.{module_numbers, map_numbers, renumbered}
+use Rattle.rep_arena.specs.Marks.{module_numbers, renumbered}
 use Rattle.rep_arena.proofs.Cutting.{names_map_number, kept_map_more, all_at}
 use Rattle.rep_arena.proofs.keeping.kept_maps.Goals as goal
 

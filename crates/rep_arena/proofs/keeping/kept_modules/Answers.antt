@@ -1,6 +1,6 @@
-use Rattle.std.proofs.Common.{◌≡◌, ◌<◌, ◌++◌, ◌∙◌, ap, sym, arith, length, take}
+use Rattle.std.proofs.Common.{◌++◌, length, take}
 use Rattle.rep_arena.specs.Entries.{numbered, no_module}
-use Rattle.rep_arena.proofs.Cutting.{names_number, kept_more, module_number}
+use Rattle.rep_arena.proofs.Cutting.{names_number, kept_more}
 use Rattle.rep_arena.proofs.keeping.kept_modules.Goals as goal
 
 pub command_module-requires : goal.command_module-requires

@@ -1,7 +1,5 @@
-use Rattle.std.proofs.Common.{ℕ, ◌<◌, ◌≡◌, ◌∙◌, length, sym, subst, inl, inr, arith, get_or}
+use Rattle.std.proofs.Common.{◌≡◌, ◌∙◌, sym, subst, inl, inr, arith, get_or}
 use Rattle.std.proofs.lemmas.Bool.{cases_eq}
-use Rattle.std.proofs.lemmas.List.{length-map}
-use Rattle.rep_arena.specs.declared.marks.RepId.{RepId}
 use Rattle.rep_arena.specs.Marks.{module_numbers}
 use Rattle.rep_arena.proofs.Cutting.{new_number-found, module_number, found_in}
 use Rattle.rep_arena.proofs.keeping.new_number.Goals as goal

@@ -1,4 +1,4 @@
-use Rattle.std.proofs.Common.{◌≡◌, ◌∙◌, ap, refl}
+use Rattle.std.proofs.Common.{◌∙◌, ap, refl}
 use Rattle.rep_arena.specs.Entries.{Entries}
 use Rattle.rep_arena.proofs.Lawful.{among_checked}
 use Rattle.rep_arena.proofs.arenas.Arena.add_map.Goals as goal

@@ -1,4 +1,4 @@
-use Rattle.std.proofs.Common.{◌≡◌, subst, ◌∙◌}
+use Rattle.std.proofs.Common.{subst, ◌∙◌}
 use Rattle.path_algebra.specs.declared.Header.{Header}
 use Rattle.module_faults.specs.ModuleFaults.{IsSmallModule}
 use Rattle.rep_arena.proofs.arenas.Arena.add_module.Goals as goal

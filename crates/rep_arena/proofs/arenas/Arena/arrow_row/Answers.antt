@@ -1,4 +1,4 @@
-use Rattle.std.proofs.Common.{◌≡◌, ◌<◌, subst, ap, sym, ◌∙◌}
+use Rattle.std.proofs.Common.{◌<◌, subst, sym}
 use Rattle.std.specs.Prelude.{slice_index}
 use Rattle.linear_algebra.specs.Rows.{IsRow}
 use Rattle.module_types.specs.declared.Module.{Module}

@@ -1,6 +1,6 @@
-use Rattle.std.proofs.Common.{◌≡◌, ◌++◌, refl, ap, arith, sym, subst, length, take, map}
+use Rattle.std.proofs.Common.{◌++◌, refl, ap, subst}
 use Rattle.rep_arena.specs.Entries.{Entries, AreLawful}
-use Rattle.rep_arena.specs.Marks.{Heights, kept, module_numbers, map_numbers}
+use Rattle.rep_arena.specs.Marks.{Heights, module_numbers, map_numbers}
 use Rattle.rep_arena.proofs.Cutting.{kept_parts, kept_is, kept_lawful, room_kept}
 use Rattle.rep_arena.proofs.arenas.Arena.keep.Goals as goal
 

@@ -1,4 +1,4 @@
-use Rattle.std.proofs.Common.{◌<◌, ◌≤◌, ◌-◌, ◌++◌, length, ap, arith, ◌≡◌}
+use Rattle.std.proofs.Common.{◌<◌, ◌-◌, length, ap, arith}
 use Rattle.rep_arena.specs.Entries.{Entries, IsMapAmong}
 use Rattle.rep_arena.proofs.Numbered.{number_in, listed_front, behind}
 use Rattle.rep_arena.proofs.arenas.Arena.map.Goals as goal

@@ -1,6 +1,4 @@
-use Rattle.std.proofs.Common.{◌<◌, ◌≤◌, ◌-◌, ◌++◌, length, ap, arith, ◌≡◌}
-use Rattle.std.proofs.lemmas.List.{length-append}
-use Rattle.module_types.specs.declared.Module.{Module}
+use Rattle.std.proofs.Common.{length, ap, arith}
 use Rattle.module_faults.specs.ModuleFaults.{IsSmallModule}
 use Rattle.rep_arena.specs.Entries.{Entries}
 use Rattle.rep_arena.proofs.Numbered.{number_in, behind}

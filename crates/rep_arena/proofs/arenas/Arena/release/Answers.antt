@@ -1,4 +1,4 @@
-use Rattle.std.proofs.Common.{◌≡◌, ◌++◌, length, take, arith}
+use Rattle.std.proofs.Common.{◌++◌, arith}
 use Rattle.rep_arena.proofs.Cutting.{cut_lists, cut_is, cut_lawful}
 use Rattle.rep_arena.proofs.arenas.Arena.release.Goals as goal
 
