@@ -1,17 +1,14 @@
 -- Entries behind which a module and a map are put, and what is left where they are cut again.
-use Rattle.std.proofs.Common.{ℕ, zero, suc, inl, inr, ◌≡◌, ◌<◌, ◌≤◌, ◌+◌, ◌-◌, ◌^◌, List, [], ◌∷◌, ◌++◌, length, take, get_or, sym, ap, ap₂, ◌∙◌, refl, arith, subst, length-append}
+use Rattle.std.proofs.Common.{ℕ, zero, suc, inl, inr, ◌≡◌, ◌<◌, ◌≤◌, ◌+◌, List, [], ◌∷◌, ◌++◌, length, sym, ap, ap₂, ◌∙◌, arith, subst, length-append}
 use Rattle.std.proofs.Math.Seq.{get_or-append_seam}
 use Rattle.std.proofs.lemmas.List.{take_all, take-append-le}
 use Rattle.std.proofs.lemmas.Bool.{cases_lt}
 use Rattle.fp_linear.specs.Matrix.{PlainMatrix}
-use Rattle.path_algebra.specs.Derivations.{IsNumber}
 use Rattle.path_algebra.specs.declared.Header.{Header}
-use Rattle.path_algebra.specs.Allowed.{IsAllowed}
-use Rattle.representations.specs.Quiver.{opposite}
 use Rattle.module_types.specs.declared.Module.{Module}
 use Rattle.module_types.specs.declared.Map.{Map}
 use Rattle.module_types.specs.declared.Side.{Side}
-use Rattle.module_types.specs.Algebras.{algebra_at, other_side}
+use Rattle.module_types.specs.Algebras.{algebra_at}
 use Rattle.module_types.specs.Shapes.{IsModule, dimension}
 use Rattle.module_types.specs.Written.{block_sum, dual_of}
 use Rattle.module_types.proofs.BlockSums.{block_sum-shape, block_sum-side, block_sum_over}
@@ -19,14 +16,14 @@ use Rattle.module_types.proofs.Duals.{dual_of-shape, dual_of-side, dual_over, qu
 use Rattle.bound_algebra.specs.BoundAlgebra.{bound_algebra}
 use Rattle.module_faults.specs.ModuleFaults.{IsSmallModule}
 use Rattle.module_faults.specs.MapFaults.{IsSmallMap}
-use Rattle.rep_arena.specs.Entries.{Entries, NamesModule, module_at, no_module, with_module, with_map, IsMapAmong}
-use Rattle.rep_arena.specs.Marks.{Heights, heights_of, Fits, cut_at}
+use Rattle.rep_arena.specs.Entries.{Entries, NamesModule, module_at, no_module, with_module, IsMapAmong}
+use Rattle.rep_arena.specs.Marks.{heights_of, Fits, cut_at}
 use Rattle.rep_arena.proofs.Numbered.{numbered-front, number_more}
 use Rattle.module_operations.specs.Summands.{AreSummands}
 use Rattle.linear_algebra.specs.BlockFamilies.{total}
 use Rattle.linear_algebra.specs.Field.{Gf}
 use Rattle.representations.specs.Quiver.{Quiver}
-use Rattle.rep_arena.specs.Entries.{map_at, NamesMap, AreLawful}
+use Rattle.rep_arena.specs.Entries.{map_at, AreLawful}
 use Rattle.rep_arena.proofs.Lawful.{small_module}
 use Rattle.module_operations.specs.Computed.{IsKernelBy, IsCokernelBy, IsImageBy, IsRadicalBy, IsTopBy}
 use Rattle.mod_ops.specs.Results.{Adds, AddsKernel, AddsCokernel, AddsImage, AddsRadical, AddsTop, source_of, target_of}

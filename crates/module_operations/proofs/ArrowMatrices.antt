@@ -1,12 +1,12 @@
 -- The matrices at an arrow and at its ends.
-use Rattle.std.proofs.Common.{ℕ, ◌<◌, ◌≤◌, ◌≡◌, List, sym, ap, ◌∙◌, refl, arith, subst}
+use Rattle.std.proofs.Common.{ℕ, ◌<◌, ◌≤◌, ◌≡◌, List, ap, ◌∙◌, refl, arith, subst}
 use Rattle.std.specs.Prelude.{slice_index_or, length}
 use Rattle.linear_algebra.specs.Field.{Gf}
 use Rattle.linear_algebra.specs.Rows.{IsGrid}
 use Rattle.linear_algebra.proofs.RowForm.{reduced_independent}
 use Rattle.linear_algebra.proofs.KernelsBySize.{coreduced_surjective}
 use Rattle.linear_algebra.proofs.Steinitz.{steinitz}
-use Rattle.fp_linear.specs.Matrix.{PlainMatrix, plain, IsMatrix}
+use Rattle.fp_linear.specs.Matrix.{PlainMatrix, plain}
 use Rattle.quiver_paths.specs.Quiver.{arrow_count, vertex_count}
 use Rattle.path_algebra.specs.declared.Header.{Header}
 use Rattle.path_algebra.specs.Allowed.{IsAllowed}
@@ -15,11 +15,11 @@ use Rattle.module_types.specs.declared.Side.{Side}
 use Rattle.module_types.specs.declared.Side.TheVariants.{Right, Left}
 use Rattle.module_types.specs.declared.Module.{Module}
 use Rattle.module_types.specs.Algebras.{algebra_at}
-use Rattle.module_types.specs.Readings.{dim_at, rows_at, rep_of, read}
+use Rattle.module_types.specs.Readings.{dim_at, rows_at, read}
 use Rattle.module_types.specs.Shapes.{IsModule, AreMatrices}
 use Rattle.module_types.proofs.Written.{dim_at-dimension}
 use Rattle.module_checks.proofs.Sides.{arrows_at, source_inside, target_inside}
-use Rattle.module_operations.specs.VertexSpaces.{row_counts, col_counts, basis_at, projection_at, AreSubspaces, AreQuotients, space_dim, quotient_dim}
+use Rattle.module_operations.specs.VertexSpaces.{basis_at, projection_at, AreSubspaces, AreQuotients, space_dim, quotient_dim}
 use Rattle.module_operations.proofs.ListedMatrices.{found, found_matrix}
 use Rattle.module_operations.proofs.Restrictions.{AreInside}
 use Rattle.module_operations.proofs.Inductions.{AreVanishing}

@@ -1,8 +1,8 @@
 -- What comes along arrows to a vertex, arrow by arrow.
-use Rattle.std.proofs.Common.{ℕ, ◌<◌, ◌≤◌, ◌≡◌, ◌≢◌, ◌+◌, ◌*◌, ◌⊎◌, List, [], ◌++◌, length, sym, ap, ap₂, ◌∙◌, inl, inr, refl, arith, subst}
+use Rattle.std.proofs.Common.{ℕ, ◌<◌, ◌≤◌, ◌≡◌, ◌≢◌, ◌+◌, ◌⊎◌, List, ◌++◌, sym, ap, ap₂, ◌∙◌, inl, inr, refl, arith, subst}
 use Rattle.std.proofs.lemmas.Bool.{cases_lt, cases_eq}
 use Rattle.linear_algebra.specs.Field.{Gf}
-use Rattle.linear_algebra.specs.Matrix.{Mat, zeros, one, stack, ◌·◌}
+use Rattle.linear_algebra.specs.Matrix.{Mat, zeros, one, stack}
 use Rattle.linear_algebra.specs.MatrixLaws.{one_mul_mat}
 use Rattle.linear_algebra.specs.Blocks.{stack_mul}
 use Rattle.linear_algebra.specs.Rank.{IsInSpan}
@@ -14,7 +14,7 @@ use Rattle.linear_algebra.proofs.Solving.{in_span_trans}
 use Rattle.linear_algebra.proofs.Steinitz.{steinitz}
 use Rattle.linear_algebra.proofs.Typed.{as_mat-append}
 use Rattle.fp_linear.specs.Matrix.{PlainMatrix, plain, IsMatrix}
-use Rattle.row_spaces.specs.RowSpaces.{typed, IsReducedMatrix, IsRowFormOf}
+use Rattle.row_spaces.specs.RowSpaces.{typed, IsRowFormOf}
 use Rattle.representations.specs.Quiver.{Quiver}
 use Rattle.representations.specs.Rep.{Rep}
 use Rattle.representations.specs.StackSpans.{stack_has_first, stack_has_second, stack_all_least}

@@ -1,9 +1,8 @@
 -- One arrow's matrix put below a basis of what came before.
-use Rattle.std.proofs.Common.{ℕ, ◌<◌, ◌≤◌, ◌≡◌, ◌≢◌, ◌+◌, ◌*◌, List, ◌++◌, length, get_or, sym, ap, ◌∙◌, refl, arith, subst}
-use Rattle.std.specs.Prelude.{slice_index_or, slice_index}
+use Rattle.std.proofs.Common.{ℕ, ◌<◌, ◌≤◌, ◌≡◌, ◌+◌, ◌*◌, List, ◌++◌, sym, ap, ◌∙◌, refl, arith, subst}
+use Rattle.std.specs.Prelude.{slice_index_or}
 use Rattle.std.proofs.Math.Nat.{mul-le-mul}
 use Rattle.std.proofs.lemmas.Grind.{get_or_default_zero}
-use Rattle.linear_algebra.specs.Field.{Gf}
 use Rattle.linear_algebra.specs.Matrix.{Mat}
 use Rattle.linear_algebra.specs.Typed.{as_mat}
 use Rattle.fp_linear.specs.Matrix.{PlainMatrix, plain, IsMatrix, most_entries, zero_rows}
@@ -11,13 +10,12 @@ use Rattle.quiver_paths.specs.Quiver.{arrow_count, vertex_count}
 use Rattle.path_algebra.specs.declared.Header.{Header}
 use Rattle.path_algebra.specs.Allowed.{IsAllowed}
 use Rattle.representations.specs.Quiver.{Quiver}
-use Rattle.representations.specs.Rep.{Rep}
 use Rattle.row_spaces.specs.RowSpaces.{typed, IsRowFormOf}
 use Rattle.module_types.specs.declared.Module.{Module}
 use Rattle.module_types.specs.Algebras.{algebra_at}
 use Rattle.module_types.specs.Readings.{dim_at, read, rows_at}
-use Rattle.module_types.specs.Shapes.{IsModule, most_dimension}
-use Rattle.module_types.proofs.Written.{dim_at-below, dim_at-dimension}
+use Rattle.module_types.specs.Shapes.{IsModule}
+use Rattle.module_types.proofs.Written.{dim_at-below}
 use Rattle.module_checks.proofs.Sides.{arrows_at}
 use Rattle.module_operations.specs.ArrowSpans.{arrow_size, arrow_family, SpansArrows}
 use Rattle.module_operations.specs.VertexSpaces.{HaveForms, AreNarrow, IsFormOf}

@@ -1,8 +1,8 @@
 -- Cokernels and tops on the quotients that are computed.
-use Rattle.std.proofs.Common.{ℕ, ◌<◌, ◌≤◌, ◌≡◌, List, sym, ap, ◌∙◌, refl, arith, subst}
-use Rattle.std.specs.Prelude.{slice_index_or, length, []}
+use Rattle.std.proofs.Common.{ℕ, ◌<◌, List, sym, ap, ◌∙◌, refl, arith, subst}
+use Rattle.std.specs.Prelude.{[]}
 use Rattle.linear_algebra.specs.Field.{Gf}
-use Rattle.linear_algebra.specs.Matrix.{Mat, Row, zeros, ◌·◌}
+use Rattle.linear_algebra.specs.Matrix.{Mat, ◌·◌}
 use Rattle.linear_algebra.specs.MatrixLaws.{mul_assoc_mat, mul_zeros}
 use Rattle.linear_algebra.specs.Rank.{IsInSpan}
 use Rattle.linear_algebra.proofs.Solving.{in_span_trans}
@@ -27,7 +27,7 @@ use Rattle.module_operations.specs.ArrowSpans.{arrow_size, arrow_family}
 use Rattle.module_faults.specs.ModuleFaults.{IsSmallModule}
 use Rattle.module_faults.specs.MapFaults.{IsSmallMap}
 use Rattle.module_operations.specs.Computed.{IsCokernelBy, IsTopBy}
-use Rattle.module_operations.specs.VertexSpaces.{row_counts, basis_at, AreSubspaces, AreQuotients, IsQuotientOn, HaveForms, HaveProjections}
+use Rattle.module_operations.specs.VertexSpaces.{row_counts, basis_at, AreQuotients, IsQuotientOn, HaveForms, HaveProjections}
 use Rattle.module_operations.proofs.ComputedSubmodules.{A, B, map_across, are_subspaces, arrows_stable}
 use Rattle.module_operations.proofs.FormSpaces.{forms_read, forms_matrices}
 use Rattle.module_operations.proofs.ProjectionSpaces.{projections_quotients, vanishes_on_span, onto, onto_quotient, onto_coreduced, onto_epi, quotient_small, onto_small}

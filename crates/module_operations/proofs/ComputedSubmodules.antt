@@ -1,18 +1,13 @@
 -- Kernels, images and radicals on the spaces that are computed.
-use Rattle.std.proofs.Common.{ℕ, ◌<◌, ◌≤◌, ◌≡◌, List, sym, ap, ◌∙◌, refl, arith, subst}
-use Rattle.std.specs.Prelude.{slice_index_or, length}
-use Rattle.linear_algebra.specs.Field.{Gf}
-use Rattle.linear_algebra.specs.Matrix.{Mat, Row, zeros, ◌·◌}
+use Rattle.std.proofs.Common.{ℕ, ◌≡◌, List, sym, ap, ◌∙◌, refl, arith, subst}
+use Rattle.linear_algebra.specs.Matrix.{Mat, zeros, ◌·◌}
 use Rattle.linear_algebra.specs.MatrixLaws.{mul_assoc_mat, mul_zeros, zeros_mul}
 use Rattle.linear_algebra.specs.Rank.{IsInSpan}
 use Rattle.linear_algebra.proofs.Dimension.{complement, kernel_spans}
-use Rattle.linear_algebra.proofs.Solving.{in_span_trans, in_span_mul}
+use Rattle.linear_algebra.proofs.Solving.{in_span_trans}
 use Rattle.fp_linear.specs.Matrix.{PlainMatrix}
-use Rattle.row_spaces.specs.RowSpaces.{IsRowFormOf}
-use Rattle.quiver_paths.specs.Quiver.{arrow_count}
 use Rattle.path_algebra.specs.declared.Header.{Header}
 use Rattle.path_algebra.specs.Allowed.{IsAllowed}
-use Rattle.representations.specs.Quiver.{Quiver}
 use Rattle.representations.specs.Rep.{Rep}
 use Rattle.representations.specs.Hom.{Hom}
 use Rattle.representations.specs.Module.{IsExact}

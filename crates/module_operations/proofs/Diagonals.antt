@@ -1,15 +1,13 @@
 -- Blocks, from matrices that are put beside and below each other.
-use Rattle.std.proofs.Common.{ℕ, ◌<◌, ◌≤◌, ◌≡◌, ◌+◌, ◌*◌, List, [], ◌∷◌, ◌++◌, length, sym, ap, ap₂, ◌∙◌, refl, arith, subst}
-use Rattle.std.specs.Prelude.{slice_index_or}
+use Rattle.std.proofs.Common.{ℕ, ◌≤◌, ◌≡◌, ◌+◌, ◌*◌, List, ◌++◌, sym, ap, ap₂, ◌∙◌, refl, arith, subst}
 use Rattle.std.proofs.Math.Nat.{mul-le-mul}
 use Rattle.linear_algebra.specs.Field.{Gf}
 use Rattle.linear_algebra.specs.Matrix.{Mat, zeros as zero_matrix_of, transpose, stack, beside}
 use Rattle.linear_algebra.specs.MatrixLaws.{transpose_transpose}
 use Rattle.linear_algebra.specs.Blocks.{transpose_stack}
 use Rattle.linear_algebra.specs.DirectSum.{diagonal}
-use Rattle.linear_algebra.specs.Rows.{IsGrid, zeros, list_of, transposed}
+use Rattle.linear_algebra.specs.Rows.{IsGrid, zeros, transposed}
 use Rattle.linear_algebra.specs.Typed.{as_mat, grid_of}
-use Rattle.linear_algebra.proofs.Rows.{list_of-same}
 use Rattle.linear_algebra.proofs.Typed.{as_mat-grid_of, IsGrid-grid_of, grid_of-as_mat, as_mat-append, IsGrid-append, as_mat-transposed, IsGrid-transposed}
 use Rattle.fp_linear.specs.Matrix.{PlainMatrix, plain, IsMatrix, most_entries, zero_rows}
 use Rattle.row_spaces.specs.RowSpaces.{typed}

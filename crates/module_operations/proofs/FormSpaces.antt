@@ -1,6 +1,6 @@
 -- Bases in reduced row form at the vertices are subspaces, where each arrow takes what they span into what they span; and so by an embedding.
-use Rattle.std.proofs.Common.{ℕ, ◌<◌, ◌≤◌, ◌≡◌, List, map, length, sym, ap, ap₂, ◌∙◌, inl, inr, refl, arith, subst}
-use Rattle.std.specs.Prelude.{slice_index_or, slice_index, []}
+use Rattle.std.proofs.Common.{ℕ, ◌<◌, ◌≡◌, List, length, sym, ap, ◌∙◌, inl, inr, arith, subst}
+use Rattle.std.specs.Prelude.{slice_index_or, []}
 use Rattle.std.proofs.lemmas.Bool.{cases_lt}
 use Rattle.std.proofs.lemmas.List.{get_or-map}
 use Rattle.linear_algebra.specs.Field.{Gf}
@@ -21,15 +21,13 @@ use Rattle.module_types.specs.declared.Module.{Module}
 use Rattle.module_types.specs.declared.Side.{Side}
 use Rattle.module_types.specs.declared.Side.TheVariants.{Right}
 use Rattle.module_types.specs.Algebras.{algebra_at}
-use Rattle.module_types.specs.Readings.{dim_at, rows_at, rep_of, read, read_beside, family_of, IsHom, IsModuleOver}
+use Rattle.module_types.specs.Readings.{dim_at, rows_at, rep_of, read, read_beside, family_of, IsHom}
 use Rattle.module_types.specs.Shapes.{IsModule, IsMap, AreMatrices}
 use Rattle.module_types.proofs.Written.{dim_at-below}
 use Rattle.claim_conditions.specs.Families.{AreReduced}
-use Rattle.claim_conditions.specs.Modules.{MapHolds}
 use Rattle.module_faults.specs.ModuleFaults.{IsSmallModule}
 use Rattle.module_faults.specs.MapFaults.{IsSmallMap}
-use Rattle.module_operations.specs.VertexSpaces.{row_counts, basis_at, AreSubspaces, IsSubmoduleOn, IsFormOf, HaveForms}
-use Rattle.module_operations.proofs.OnSpaces.{no_rows_equal}
+use Rattle.module_operations.specs.VertexSpaces.{row_counts, basis_at, AreSubspaces, IsSubmoduleOn, HaveForms}
 
 pub no_columns_equal : {q : Gf} {m n : ℕ} (a b : Mat q m n) → n ≡ 0 → a ≡ b
 no_columns_equal a b e = Mat-eq_below a b (λ i j l k. absurd (omega arith))

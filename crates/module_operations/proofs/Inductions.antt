@@ -1,5 +1,5 @@
 -- The matrix of an arrow on quotients, from matrices that are found at their places.
-use Rattle.std.proofs.Common.{ℕ, ◌<◌, ◌≤◌, ◌≡◌, ◌*◌, List, sym, ap, ap₂, ◌∙◌, arith, subst}
+use Rattle.std.proofs.Common.{ℕ, ◌≤◌, ◌≡◌, ◌*◌, List, sym, ap, ap₂, ◌∙◌, subst}
 use Rattle.linear_algebra.specs.Field.{Gf}
 use Rattle.linear_algebra.specs.Matrix.{Mat, Row, zeros, ◌·◌}
 use Rattle.linear_algebra.specs.RowForm.{IsCoReduced}

@@ -15,3 +15,5 @@ pub mod ArrowSpanSteps
 pub mod Diagonals
 pub mod ArrowStacks
 pub mod SumLists
+pub mod Determined
+pub mod DeterminedAnswers

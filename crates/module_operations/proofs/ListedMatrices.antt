@@ -1,12 +1,11 @@
 -- The matrices of a list that have their shapes are what the list is read as.
-use Rattle.std.proofs.Common.{ℕ, ◌<◌, ◌≡◌, ◌+◌, List, [], ◌∷◌, ◌++◌, map, length, get_or, sym, ap, ap₂, ◌∙◌, inl, inr, arith, subst, length-append}
+use Rattle.std.proofs.Common.{ℕ, ◌<◌, ◌≡◌, List, [], length, sym, ap, ◌∙◌, arith, subst}
 use Rattle.std.specs.Prelude.{slice_index_or}
-use Rattle.std.proofs.lemmas.List.{get_or-map, length-map}
+use Rattle.std.proofs.lemmas.List.{get_or-map}
 use Rattle.linear_algebra.specs.Field.{Gf}
 use Rattle.fp_linear.specs.Matrix.{PlainMatrix, plain, IsMatrix}
 use Rattle.module_types.specs.Readings.{rows_at}
 use Rattle.module_types.specs.Shapes.{HasShape, AreMatrices}
-use Rattle.module_operations.specs.VertexSpaces.{row_counts, col_counts}
 
 -- A matrix with its shape is given by its rows.
 pub plain_of : (q : Gf) (m n : ℕ) (a : PlainMatrix) → HasShape q m n a → a ≡ plain q m n a.rows

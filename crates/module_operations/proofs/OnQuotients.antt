@@ -1,8 +1,8 @@
 -- The module on quotients of spaces of rows, from the matrices of its arrows.
-use Rattle.std.proofs.Common.{ℕ, ◌<◌, ◌≤◌, ◌≡◌, ◌+◌, List, [], ◌∷◌, ◌++◌, map, length, sym, ap, ◌∙◌, inl, inr, refl, arith, subst}
+use Rattle.std.proofs.Common.{ℕ, ◌<◌, ◌≤◌, ◌≡◌, ◌+◌, List, [], ◌∷◌, ◌++◌, length, sym, ap, ◌∙◌, inl, inr, refl, arith, subst}
 use Rattle.std.proofs.lemmas.Bool.{cases_lt}
 use Rattle.std.proofs.lemmas.List.{length-map}
-use Rattle.linear_algebra.specs.Matrix.{Mat, ◌·◌}
+use Rattle.linear_algebra.specs.Matrix.{◌·◌}
 use Rattle.linear_algebra.specs.Field.{Gf}
 use Rattle.linear_algebra.specs.Typed.{as_mat}
 use Rattle.linear_algebra.proofs.KernelsBySize.{coreduced_surjective}
@@ -13,7 +13,7 @@ use Rattle.representations.specs.Rep.{Rep}
 use Rattle.path_algebra.specs.declared.Header.{Header}
 use Rattle.module_types.specs.declared.Module.{Module}
 use Rattle.module_types.specs.Algebras.{algebra_at}
-use Rattle.module_types.specs.Readings.{dim_at, rows_at, rep_of, read, read_beside, family_of, IsHom}
+use Rattle.module_types.specs.Readings.{dim_at, rep_of, read, read_beside, family_of, IsHom}
 use Rattle.module_types.specs.Shapes.{IsModule}
 use Rattle.module_operations.specs.VertexSpaces.{col_counts, AreQuotients, IsQuotientOn, IsInduced, HaveInduced, projection_at, quotient_dim}
 use Rattle.module_operations.proofs.Counts.{each_pushed, counted_pushed}

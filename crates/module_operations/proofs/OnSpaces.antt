@@ -1,6 +1,6 @@
 -- The module on spaces of rows, from the matrices of its arrows.
-use Rattle.std.proofs.Common.{ℕ, ◌<◌, ◌≤◌, ◌≡◌, ◌+◌, List, [], ◌∷◌, ◌++◌, map, length, get_or, sym, ap, ap₂, ◌∙◌, inl, inr, refl, arith, subst}
-use Rattle.std.specs.Prelude.{slice_index_or, slice_index}
+use Rattle.std.proofs.Common.{ℕ, ◌<◌, ◌≤◌, ◌≡◌, ◌+◌, List, [], ◌∷◌, ◌++◌, length, sym, ap, ◌∙◌, inl, inr, refl, arith, subst}
+use Rattle.std.specs.Prelude.{slice_index}
 use Rattle.std.proofs.lemmas.Bool.{cases_lt}
 use Rattle.std.proofs.lemmas.List.{length-map}
 use Rattle.linear_algebra.specs.Field.{Gf}
@@ -15,8 +15,8 @@ use Rattle.representations.specs.Rep.{Rep}
 use Rattle.path_algebra.specs.declared.Header.{Header}
 use Rattle.module_types.specs.declared.Module.{Module}
 use Rattle.module_types.specs.Algebras.{algebra_at}
-use Rattle.module_types.specs.Readings.{dim_at, rows_at, rep_of, read, read_beside, family_of, IsHom}
-use Rattle.module_types.specs.Shapes.{IsModule, AreMatrices, dimension}
+use Rattle.module_types.specs.Readings.{dim_at, rep_of, read, read_beside, family_of, IsHom}
+use Rattle.module_types.specs.Shapes.{IsModule, dimension}
 use Rattle.module_types.proofs.Written.{dim_at-below}
 use Rattle.module_operations.specs.VertexSpaces.{row_counts, AreSubspaces, IsSubmoduleOn, IsRestriction, HaveRestrictions, basis_at, space_dim}
 use Rattle.module_operations.proofs.Counts.{total_le, each_pushed, counted_pushed}

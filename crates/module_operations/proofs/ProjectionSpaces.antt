@@ -1,10 +1,10 @@
 -- Co-reduced projections at the vertices are quotients, where each arrow takes what they take to zero to what they take to zero; and so by a projection.
-use Rattle.std.proofs.Common.{ℕ, ◌<◌, ◌≤◌, ◌≡◌, List, map, length, sym, ap, ap₂, ◌∙◌, inl, inr, refl, arith, subst}
-use Rattle.std.specs.Prelude.{slice_index_or, slice_index, []}
+use Rattle.std.proofs.Common.{ℕ, ◌<◌, ◌≡◌, List, length, sym, ap, ◌∙◌, inl, inr, arith, subst}
+use Rattle.std.specs.Prelude.{slice_index_or, []}
 use Rattle.std.proofs.lemmas.Bool.{cases_lt}
 use Rattle.std.proofs.lemmas.List.{get_or-map}
 use Rattle.linear_algebra.specs.Field.{Gf}
-use Rattle.linear_algebra.specs.Matrix.{Mat, Row, zeros, ◌·◌}
+use Rattle.linear_algebra.specs.Matrix.{Mat, zeros, ◌·◌}
 use Rattle.linear_algebra.specs.MatrixLaws.{mul_assoc_mat, mul_zeros}
 use Rattle.linear_algebra.specs.Rank.{IsInSpan}
 use Rattle.linear_algebra.specs.Typed.{as_mat}
@@ -22,14 +22,13 @@ use Rattle.module_types.specs.declared.Module.{Module}
 use Rattle.module_types.specs.declared.Side.{Side}
 use Rattle.module_types.specs.declared.Side.TheVariants.{Right}
 use Rattle.module_types.specs.Algebras.{algebra_at}
-use Rattle.module_types.specs.Readings.{dim_at, rows_at, rep_of, read, read_beside, family_of, IsHom, IsModuleOver}
-use Rattle.module_types.specs.Shapes.{IsModule, IsMap, AreMatrices}
+use Rattle.module_types.specs.Readings.{dim_at, rows_at, rep_of, read, read_beside, family_of}
+use Rattle.module_types.specs.Shapes.{IsModule, AreMatrices}
 use Rattle.module_types.proofs.Written.{dim_at-below}
 use Rattle.claim_conditions.specs.Families.{AreCoReduced}
-use Rattle.claim_conditions.specs.Modules.{MapHolds}
 use Rattle.module_faults.specs.ModuleFaults.{IsSmallModule}
 use Rattle.module_faults.specs.MapFaults.{IsSmallMap}
-use Rattle.module_operations.specs.VertexSpaces.{col_counts, projection_at, AreQuotients, IsQuotientOn, IsProjectionOf, HaveProjections}
+use Rattle.module_operations.specs.VertexSpaces.{col_counts, projection_at, AreQuotients, IsQuotientOn, HaveProjections}
 use Rattle.module_operations.proofs.FormSpaces.{no_columns_equal}
 
 -- What vanishes on rows vanishes on their combinations.

@@ -1,8 +1,8 @@
 -- The matrix of an arrow on spaces of rows, from matrices that are found at their places.
-use Rattle.std.proofs.Common.{ℕ, ◌<◌, ◌≤◌, ◌≡◌, ◌*◌, List, sym, ap, ap₂, ◌∙◌, arith, subst}
+use Rattle.std.proofs.Common.{ℕ, ◌≤◌, ◌≡◌, ◌*◌, List, sym, ap, ap₂, ◌∙◌, arith, subst}
 use Rattle.std.proofs.Math.Nat.{mul-le-mul}
 use Rattle.linear_algebra.specs.Field.{Gf}
-use Rattle.linear_algebra.specs.Matrix.{Mat, ◌·◌}
+use Rattle.linear_algebra.specs.Matrix.{◌·◌}
 use Rattle.linear_algebra.specs.Rank.{IsInSpan}
 use Rattle.linear_algebra.specs.Rows.{IsGrid, product}
 use Rattle.linear_algebra.specs.Typed.{as_mat}

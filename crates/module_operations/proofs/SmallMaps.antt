@@ -1,6 +1,5 @@
 -- Maps between modules of at most the largest dimension have small matrices.
-use Rattle.std.proofs.Common.{ℕ, ◌<◌, ◌≤◌, ◌≡◌, List, length, sym, arith, subst}
-use Rattle.std.specs.Prelude.{slice_index_or}
+use Rattle.std.proofs.Common.{ℕ, ◌≤◌, List, arith, subst}
 use Rattle.linear_algebra.specs.Field.{Gf}
 use Rattle.fp_linear.specs.Matrix.{PlainMatrix}
 use Rattle.path_algebra.specs.declared.Header.{Header}
@@ -9,7 +8,7 @@ use Rattle.module_types.specs.declared.Module.{Module}
 use Rattle.module_types.specs.declared.Side.{Side}
 use Rattle.module_types.specs.Algebras.{algebra_at}
 use Rattle.module_types.specs.Readings.{dim_at}
-use Rattle.module_types.specs.Shapes.{IsModule, IsMap, AreMatrices}
+use Rattle.module_types.specs.Shapes.{IsModule, IsMap}
 use Rattle.module_types.proofs.Written.{dim_at-dimension}
 use Rattle.module_faults.specs.ModuleFaults.{IsSmallModule}
 use Rattle.module_faults.specs.MapFaults.{IsSmallMap}

@@ -1,19 +1,16 @@
 -- The sum of two modules, vertex by vertex and arrow by arrow.
-use Rattle.std.proofs.Common.{ℕ, ◌<◌, ◌≤◌, ◌≡◌, ◌+◌, ◌*◌, List, [], ◌∷◌, ◌++◌, length, get_or, sym, ap, ap₂, ◌∙◌, refl, arith, subst}
-use Rattle.std.specs.Prelude.{slice_index_or, slice_index}
+use Rattle.std.proofs.Common.{ℕ, ◌<◌, ◌≤◌, ◌≡◌, ◌+◌, List, length, get_or, sym, ap, ap₂, ◌∙◌, arith, subst}
+use Rattle.std.specs.Prelude.{slice_index_or}
 use Rattle.std.proofs.lemmas.Grind.{get_or_default_zero}
 use Rattle.linear_algebra.specs.Field.{Gf}
-use Rattle.linear_algebra.specs.BlockFamilies.{total}
 use Rattle.linear_algebra.specs.DirectSum.{diagonal}
 use Rattle.linear_algebra.specs.Rows.{list_of}
-use Rattle.linear_algebra.specs.Typed.{as_mat, grid_of}
+use Rattle.linear_algebra.specs.Typed.{grid_of}
 use Rattle.fp_linear.specs.Matrix.{PlainMatrix, plain}
 use Rattle.representations.specs.Quiver.{Quiver}
-use Rattle.representations.specs.Rep.{Rep}
 use Rattle.module_types.specs.declared.Module.{Module}
 use Rattle.module_types.specs.declared.Side.{Side}
 use Rattle.module_types.specs.Readings.{dim_at, rows_at, rep_of}
-use Rattle.module_types.specs.Shapes.{IsModule, dimension}
 use Rattle.module_types.specs.Written.{block_sum}
 use Rattle.module_types.proofs.Written.{dim_at-below, dim_at-dimension}
 use Rattle.module_operations.specs.Summands.{AreSummands, AreSmallBlocks}

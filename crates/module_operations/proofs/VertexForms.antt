@@ -1,9 +1,8 @@
 -- Bases and projections at the vertices, from the matrices at their places.
 use Rattle.std.proofs.Common.{ℕ, ◌<◌, ◌≤◌, ◌≡◌, ◌+◌, ◌*◌, List, [], ◌∷◌, ◌++◌, length, sym, ap, ◌∙◌, refl, arith, subst}
 use Rattle.std.specs.Prelude.{slice_index_or}
-use Rattle.std.proofs.Math.Nat.{mul-le-mul}
 use Rattle.linear_algebra.specs.Field.{Gf}
-use Rattle.linear_algebra.specs.Matrix.{Mat, Row, zeros, ◌·◌}
+use Rattle.linear_algebra.specs.Matrix.{Mat}
 use Rattle.linear_algebra.specs.Parts.{row}
 use Rattle.linear_algebra.specs.PartsLaws.{row-mul, row_zeros}
 use Rattle.linear_algebra.specs.Typed.{as_mat}
@@ -15,7 +14,7 @@ use Rattle.representations.specs.Quiver.{Quiver}
 use Rattle.representations.specs.Rep.{Rep}
 use Rattle.module_types.specs.Readings.{rows_at, family_of}
 use Rattle.module_types.specs.Shapes.{AreMatrices, most_dimension}
-use Rattle.module_operations.specs.VertexSpaces.{IsFormOf, IsProjectionOf, HaveForms, HaveProjections, AreLow, AreNarrow, kernel_size, kernel_family}
+use Rattle.module_operations.specs.VertexSpaces.{IsFormOf, IsProjectionOf, HaveForms, HaveProjections, AreLow, AreNarrow, kernel_family}
 use Rattle.module_operations.proofs.Counts.{each_pushed, counted_pushed}
 use Rattle.module_operations.proofs.ListedMatrices.{found}
 use Rattle.module_operations.proofs.Restrictions.{few_entries}

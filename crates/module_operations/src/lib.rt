@@ -3,6 +3,7 @@
 
 mod duals;
 mod kernels;
+pub mod laws;
 mod quotient_modules;
 mod radicals;
 mod submodules;

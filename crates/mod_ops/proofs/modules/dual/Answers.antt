@@ -1,4 +1,3 @@
-use Rattle.std.proofs.Common.{◌∙◌}
 use Rattle.mod_ops.proofs.Added.{dual_lawful}
 use Rattle.mod_ops.proofs.modules.dual.Goals as goal
 

@@ -1,5 +1,3 @@
-use Rattle.std.proofs.Common.{◌≡◌, ◌<◌, sym, ◌∙◌, arith}
-use Rattle.module_types.specs.Algebras.{algebra_at}
 use Rattle.module_operations.proofs.ArrowMatrices.{source_below, target_below, arrow_matrix, source_projection, target_projection, is_vanishing, in_projections, few_dim, few_quotient}
 use Rattle.module_operations.proofs.Inductions.{onto_field, onto_rows, onto_size, source_coreduced, along_field, along_rows, along_vanishes, factor_shape, factor_composes}
 use Rattle.module_operations.proofs.quotient_modules.induced.Goals as goal

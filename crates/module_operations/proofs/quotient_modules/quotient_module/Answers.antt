@@ -2,7 +2,7 @@ use Rattle.std.proofs.Common.{◌≡◌, arith}
 use Rattle.module_types.specs.Algebras.{algebra_at}
 use Rattle.module_types.specs.Readings.{read}
 use Rattle.module_checks.proofs.Sides.{arrows_at}
-use Rattle.module_operations.proofs.OnQuotients.{HaveInduced-none, HaveInduced-more, on_quotients_is}
+use Rattle.module_operations.proofs.OnQuotients.{HaveInduced-more, on_quotients_is}
 use Rattle.module_operations.proofs.quotient_modules.quotient_module.Goals as goal
 
 pub loop-arrow-preserved : goal.loop-arrow-preserved

@@ -1,6 +1,3 @@
-use Rattle.fp_linear.specs.Matrix.{PlainMatrix}
-use Rattle.std.proofs.Common.{List}
-use Rattle.module_types.specs.Algebras.{algebra_at}
 use Rattle.module_types.specs.Readings.{read}
 use Rattle.module_operations.specs.ArrowSpans.{arrow_size, arrow_family}
 use Rattle.module_operations.proofs.ArrowStacks.{all_vertices, narrow_bases}

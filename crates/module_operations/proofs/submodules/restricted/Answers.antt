@@ -1,6 +1,4 @@
-use Rattle.std.proofs.Common.{◌≡◌, ◌<◌, sym, ◌∙◌, arith}
-use Rattle.module_types.specs.Algebras.{algebra_at}
-use Rattle.module_operations.proofs.ArrowMatrices.{vertices_at, source_below, target_below, arrow_matrix, source_basis, target_basis, is_inside, in_bases, few_dim, few_space}
+use Rattle.module_operations.proofs.ArrowMatrices.{source_below, target_below, arrow_matrix, source_basis, target_basis, is_inside, in_bases, few_dim, few_space}
 use Rattle.module_operations.proofs.Restrictions.{matrix_field, matrix_rows, product_size, target_reduced, along_field, along_width, along_inside, result_shape, result_combines}
 use Rattle.module_operations.proofs.submodules.restricted.Goals as goal
 

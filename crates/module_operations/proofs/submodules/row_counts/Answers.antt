@@ -1,6 +1,5 @@
-use Rattle.std.proofs.Common.{◌≡◌, ◌∙◌, ap, arith, length}
+use Rattle.std.proofs.Common.{◌∙◌, arith}
 use Rattle.fp_linear.specs.Matrix.{PlainMatrix}
-use Rattle.module_operations.specs.VertexSpaces.{row_counts}
 use Rattle.module_operations.proofs.Counts.{map_take-more, map_take-all}
 use Rattle.module_operations.proofs.submodules.row_counts.Goals as goal
 

@@ -2,7 +2,7 @@ use Rattle.std.proofs.Common.{◌≡◌, arith}
 use Rattle.module_types.specs.Algebras.{algebra_at}
 use Rattle.module_types.specs.Readings.{read}
 use Rattle.module_checks.proofs.Sides.{arrows_at}
-use Rattle.module_operations.proofs.OnSpaces.{HaveRestrictions-none, HaveRestrictions-more, on_spaces_is}
+use Rattle.module_operations.proofs.OnSpaces.{HaveRestrictions-more, on_spaces_is}
 use Rattle.module_operations.proofs.submodules.submodule.Goals as goal
 
 pub loop-arrow-preserved : goal.loop-arrow-preserved

@@ -1,5 +1,5 @@
-use Rattle.std.proofs.Common.{◌≡◌, ◌≤◌, ◌∙◌, ap, arith}
-use Rattle.fp_linear.specs.Matrix.{PlainMatrix, plain, zero_rows}
+use Rattle.std.proofs.Common.{ap, arith}
+use Rattle.fp_linear.specs.Matrix.{PlainMatrix}
 use Rattle.module_operations.proofs.Diagonals.{diagonal_by_blocks, few_blocks, few_product, zero_matrix}
 use Rattle.module_operations.proofs.sums.diagonal_blocks.Goals as goal
 

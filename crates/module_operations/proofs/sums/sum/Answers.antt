@@ -1,4 +1,4 @@
-use Rattle.std.proofs.Common.{◌≡◌, ◌<◌, ◌≤◌, ◌++◌, ◌∷◌, [], ◌∙◌, ap, sym, arith, refl}
+use Rattle.std.proofs.Common.{◌≡◌, ◌++◌, ◌∷◌, [], ◌∙◌, ap, sym, arith, refl}
 use Rattle.linear_algebra.specs.Rows.{list_of}
 use Rattle.module_faults.proofs.DualLists.{list_of-more, list_of-none}
 use Rattle.module_operations.proofs.SumLists.{sum_dim, sum_matrix, dims_add, dims_fit, small_blocks, blocks_are, sum_by_lists}

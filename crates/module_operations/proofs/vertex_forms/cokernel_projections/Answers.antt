@@ -1,6 +1,5 @@
-use Rattle.std.proofs.Common.{ℕ, ◌≡◌, ◌∙◌, sym, ap, arith}
+use Rattle.std.proofs.Common.{◌≡◌, ◌∙◌, sym, ap, arith}
 use Rattle.std.specs.Prelude.{slice_index_or}
-use Rattle.fp_linear.specs.Matrix.{PlainMatrix}
 use Rattle.module_types.specs.Readings.{family_of}
 use Rattle.module_operations.proofs.VertexForms.{narrow_square, quotient_form, HaveProjections-more}
 use Rattle.module_operations.proofs.vertex_forms.cokernel_projections.Goals as goal

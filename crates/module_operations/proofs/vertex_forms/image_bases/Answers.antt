@@ -1,8 +1,7 @@
-use Rattle.std.proofs.Common.{ℕ, ◌≡◌, ◌∙◌, sym, ap, arith}
+use Rattle.std.proofs.Common.{◌≡◌, ◌∙◌, sym, ap, arith}
 use Rattle.std.specs.Prelude.{slice_index_or}
-use Rattle.fp_linear.specs.Matrix.{PlainMatrix}
 use Rattle.module_types.specs.Readings.{family_of}
-use Rattle.module_operations.proofs.VertexForms.{image_form, HaveForms-none, HaveForms-more}
+use Rattle.module_operations.proofs.VertexForms.{image_form, HaveForms-more}
 use Rattle.module_operations.proofs.vertex_forms.image_bases.Goals as goal
 
 pub loop-v-preserved : goal.loop-v-preserved

@@ -1,10 +1,9 @@
-use Rattle.std.proofs.Common.{ℕ}
 use Rattle.linear_algebra.specs.Field.{Gf}
 use Rattle.representations.specs.Quiver.{Quiver}
 use Rattle.representations.specs.Rep.{Rep}
 use Rattle.module_types.specs.Readings.{family_of}
 use Rattle.module_types.specs.Shapes.{AreMatrices}
-use Rattle.module_operations.specs.VertexSpaces.{HaveForms, HaveProjections, kernel_size, kernel_family}
+use Rattle.module_operations.specs.VertexSpaces.{HaveForms}
 use Rattle.module_operations.proofs.vertex_forms.image_bases.Given as goal
 
 abbrev pub invariant-loop-v : goal.invariant-loop-v

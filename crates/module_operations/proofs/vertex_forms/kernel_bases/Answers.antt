@@ -1,6 +1,6 @@
 use Rattle.std.proofs.Common.{◌≡◌, arith}
 use Rattle.module_operations.specs.VertexSpaces.{kernel_size, kernel_family}
-use Rattle.module_operations.proofs.VertexForms.{low_square, kernel_form, HaveForms-none, HaveForms-more}
+use Rattle.module_operations.proofs.VertexForms.{kernel_form, HaveForms-more}
 use Rattle.module_operations.proofs.vertex_forms.kernel_bases.Goals as goal
 
 pub loop-v-preserved : goal.loop-v-preserved
