@@ -1,0 +1,2 @@
+pub mod HomBases
+pub mod HomCounts
