@@ -81,12 +81,12 @@ module _ (h : Header) (a b : Module) where
     reduced = kernel.reduced;
   }
 
-  pub basis_of_solutions : (n m : ℕ) (s : List ℕ) (asking basis : PlainMatrix) → a.side ≡ b.side → n ≡ unknown_number h a b → AreElements h.field s
+  pub basis_of_solutions : (n m : ℕ) (s : List ℕ) (equation_rows basis : PlainMatrix) → a.side ≡ b.side → n ≡ unknown_number h a b → AreElements h.field s
       → AskUpTo (read h a) (read_beside h a b) n m (algebra_at a.side h).quiver.arrows s
-      → asking ≡ plain h.field m n (rows_of m n s) → basis ≡ plain asking.field basis.row_count asking.col_count basis.rows → IsMatrix basis
-      → IsKernelBasis (transpose (typed asking)) (as_mat asking.field basis.row_count asking.col_count basis.rows)
+      → equation_rows ≡ plain h.field m n (rows_of m n s) → basis ≡ plain equation_rows.field basis.row_count equation_rows.col_count basis.rows → IsMatrix basis
+      → IsKernelBasis (transpose (typed equation_rows)) (as_mat equation_rows.field basis.row_count equation_rows.col_count basis.rows)
       → IsReducedHomBasis h a b basis
-  basis_of_solutions n m s asking basis e count small asked written shape is kernel =
+  basis_of_solutions n m s equation_rows basis e count small asked written shape is kernel =
       let there : IsKernelBasis (transpose (as_mat h.field m n (rows_of m n s))) (as_mat h.field basis.row_count n basis.rows) =
         subst (λ (x : PlainMatrix). IsKernelBasis (transpose (typed x)) (as_mat x.field basis.row_count x.col_count basis.rows)) written kernel in
       let same : basis ≡ plain h.field basis.row_count n basis.rows =
