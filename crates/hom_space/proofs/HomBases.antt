@@ -88,9 +88,9 @@ module _ (h : Header) (a b : Module) where
       → IsReducedHomBasis h a b basis
   basis_of_solutions n m s equation_rows basis e count small asked written shape is kernel =
       let there : IsKernelBasis (transpose (as_mat h.field m n (rows_of m n s))) (as_mat h.field basis.row_count n basis.rows) =
-        subst (λ (x : PlainMatrix). IsKernelBasis (transpose (typed x)) (as_mat x.field basis.row_count x.col_count basis.rows)) written kernel in
+      subst (λ (x : PlainMatrix). IsKernelBasis (transpose (typed x)) (as_mat x.field basis.row_count x.col_count basis.rows)) written kernel in
       let same : basis ≡ plain h.field basis.row_count n basis.rows =
-        subst (λ (x : PlainMatrix). basis ≡ plain x.field basis.row_count x.col_count basis.rows) written shape in
+      subst (λ (x : PlainMatrix). basis ≡ plain x.field basis.row_count x.col_count basis.rows) written shape in
       let matrix : IsMatrix (plain h.field basis.row_count n basis.rows) = subst IsMatrix same is in
       subst (IsReducedHomBasis h a b) (sym (same ∙ ap (λ n. plain h.field basis.row_count n basis.rows) count))
       (basis_of_rows m basis.row_count s basis.rows e small

@@ -1,2 +1,3 @@
 pub mod HomBases
 pub mod HomCounts
+pub mod RowsInBases

@@ -33,7 +33,16 @@ pub(crate) fn reduced_basis(
     let rows = 2 * unknowns + 1;
     let mut entries = vec![in alloc; 0u8; rows as usize * unknowns as usize]?;
     let mut pivots = vec![in alloc; 0u32; rows as usize]?;
-    equations_rank(header, a.side, a, b, unknowns, rows, &mut entries, &mut pivots);
+    equations_rank(
+        header,
+        a.side,
+        a,
+        b,
+        unknowns,
+        rows,
+        &mut entries,
+        &mut pivots,
+    );
     let equations = Matrix::from_entries(alloc, header.field, rows, unknowns, &entries)?;
     let basis = annihilator(alloc, equations)?;
     Ok(basis)

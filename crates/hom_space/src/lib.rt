@@ -32,3 +32,6 @@ impl From<AllocError> for HomError {
         HomError::NoMemory
     }
 }
+
+#[cfg(test)]
+mod tests;

@@ -8,9 +8,9 @@ ghost use Rattle.module_faults.specs.ModuleFaults.{IsSmallModule};
 ghost use Rattle.rep_arena.specs.Entries.{NamesModule, module_at};
 ghost use Rattle.hom_space.specs.HomForms.{unknown_number, IsReducedHomBasis, IsHomError};
 
+use crate::HomError;
 use crate::bases::reduced_basis;
 use crate::counting::unknowns_between;
-use crate::HomError;
 use fp_linear::Matrix;
 use path_algebra::Header;
 use rep_arena::{Arena, ModuleRef, RepId};
@@ -47,7 +47,12 @@ pub fn hom_of(
 }
 
 /// The basis in reduced row form of the homomorphisms from `m` to `n`, modules of one side; as `hom_of`.
-pub fn hom_basis(alloc: Global, arena: &Arena<'_, '_>, m: RepId, n: RepId) -> Result<Matrix, HomError>
+pub fn hom_basis(
+    alloc: Global,
+    arena: &Arena<'_, '_>,
+    m: RepId,
+    n: RepId,
+) -> Result<Matrix, HomError>
     requires m { NamesModule arena.now m.number }
     requires n { NamesModule arena.now n.number }
     requires side { (module_at arena.now m.number).side ≡ (module_at arena.now n.number).side }
