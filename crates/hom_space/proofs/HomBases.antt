@@ -3,7 +3,6 @@ use Rattle.std.proofs.Common.{ℕ, ◌<◌, ◌≡◌, List, refl, sym, ap, ◌�
 use Rattle.linear_algebra.specs.Field.{Gf}
 use Rattle.linear_algebra.specs.Matrix.{Mat, Row, Mat-eq_below, zeros, transpose, ◌·◌}
 use Rattle.linear_algebra.specs.Parts.{row}
-use Rattle.linear_algebra.specs.Rank.{IsInSpan}
 use Rattle.linear_algebra.specs.Rows.{IsGrid, rows_of}
 use Rattle.linear_algebra.specs.Typed.{as_mat}
 use Rattle.linear_algebra.proofs.PartsLaws.{made-at, row-mul, row_zeros}
@@ -19,7 +18,6 @@ use Rattle.row_spaces.proofs.OrthogonalRows.{orthogonal_both}
 use Rattle.path_algebra.specs.declared.Header.{Header}
 use Rattle.representations.specs.Quiver.{Quiver}
 use Rattle.representations.specs.Rep.{Rep}
-use Rattle.representations.specs.Hom.{Hom}
 use Rattle.representations.specs.HomSpace.{unknowns, flat, defects, equations, IsHomBasis}
 use Rattle.representations.proofs.Equations.{no_defects_all}
 use Rattle.representations.proofs.HomSpace.{no_defect, hom_of, flat-hom_of, hom_defects}
@@ -27,10 +25,9 @@ use Rattle.representations.proofs.HomsBySize.{hom_basis_unique}
 use Rattle.module_types.specs.declared.Module.{Module}
 use Rattle.module_types.specs.Algebras.{algebra_at}
 use Rattle.module_types.specs.Readings.{read, read_beside}
-use Rattle.module_types.specs.Shapes.{HasShape}
 use Rattle.module_checks.specs.Commuting.{AskUpTo}
 use Rattle.claim_conditions.specs.Conditions.{AllHold}
-use Rattle.claim_conditions.specs.Homs.{hom_rows, HomHolds}
+use Rattle.claim_conditions.specs.Homs.{hom_rows}
 use Rattle.claim_conditions.specs.HomConditions.{hom_conditions}
 use Rattle.claim_laws.proofs.HomLaws.{hom_suffices, hom_complete}
 use Rattle.hom_space.specs.HomForms.{unknown_number, IsRowsOfHoms, IsReducedHomBasis}
