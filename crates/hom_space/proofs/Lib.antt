@@ -1,0 +1,3 @@
+pub mod HomBases
+pub mod HomCounts
+pub mod RowsInBases
