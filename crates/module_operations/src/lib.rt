@@ -11,7 +11,7 @@ mod vertex_forms;
 
 pub use duals::dual;
 pub use kernels::{cokernel, image, kernel};
-pub use radicals::{radical, top};
+pub use radicals::{radical, radical_bases, top};
 pub use sums::sum;
 
 use fp_linear::Matrix;
