@@ -17,8 +17,8 @@ use Rattle.representations.proofs.Paths.{along-then}
 use Rattle.bound_algebra.specs.TypedPaths.{arrows_of}
 use Rattle.bound_algebra.proofs.TypedPaths.{length-arrows_of}
 use Rattle.module_checks.specs.PathImages.{arrow_dot, MeetsAt, HoldPaths}
-use Rattle.module_checks.proofs.PathImages.{placed, dot_placed, image_placed, image_elsewhere}
 use Rattle.module_faults.specs.Levels.{AskImage}
+use Rattle.module_faults.proofs.PlacedColumns.{placed, dot_placed, image_placed, image_elsewhere}
 use Rattle.module_faults.proofs.Stopping.{PrefixEnds}
 
 -- the rows span what comes along the paths of these arrows

@@ -21,10 +21,10 @@ use Rattle.module_checks.specs.Commuting.{AsksMore}
 use Rattle.module_checks.specs.Meeting.{AllMeet}
 use Rattle.module_checks.specs.PathImages.{arrow_dot, ImagesMet, MeetsAt}
 use Rattle.module_checks.proofs.HomRank.{IsPlainOf}
-use Rattle.module_checks.proofs.PathImages.{image_of_arrow}
 use Rattle.module_checks.proofs.SpreadDots.{dot_clear}
 use Rattle.module_faults.specs.Levels.{TakeToZero, IsLevel, AskImage, IsStoppedAt}
 use Rattle.module_faults.proofs.Stopping.{AreStopped, behind_of_ends, ends_of_behind, stopped_by, by_stopped}
+use Rattle.module_faults.proofs.PlacedColumns.{image_of_arrow}
 use Rattle.module_faults.proofs.PrefixRows.{HoldPrefix}
 
 -- What is folded into clear rows is what they ask then.
@@ -134,6 +134,6 @@ module _ {q : Gf} {Q : Quiver} (Y : Rep q Q) (xs : List ℕ) (n m count j a : �
   unfolding zeros
   front_stopped h =
       let e = by_stopped Y xs j a prefix ends
-          (λ y e. held.forth (Q.source a) y (prefix_meets y e)) (λ y e. meets_prefix y (held.back (Q.source a) y e))
-          (λ y e. behind_of_ends Y j (Q.target a) y (level.forth (Q.target a) y (ends_take y e))) (λ y e. take_ends y (level.back (Q.target a) y (ends_of_behind Y j (Q.target a) y e))) h in
+      (λ y e. held.forth (Q.source a) y (prefix_meets y e)) (λ y e. meets_prefix y (held.back (Q.source a) y e))
+      (λ y e. behind_of_ends Y j (Q.target a) y (level.forth (Q.target a) y (ends_take y e))) (λ y e. take_ends y (level.back (Q.target a) y (ends_of_behind Y j (Q.target a) y e))) h in
       record { each = λ l r d b. sym (product r l b d) ∙ ap (λ (m : Mat q count L.row_count). m.at r l) e }

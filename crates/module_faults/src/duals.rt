@@ -10,7 +10,7 @@ use seq::Seq;
 use std::alloc::{AllocError, Global};
 
 /// The dual of a module over the header: it has the transposed matrices, and the other side.
-pub(crate) fn dual_module(alloc: Global, header: &Header, m: &Module) -> Result<Module, AllocError>
+pub fn dual_module(alloc: Global, header: &Header, m: &Module) -> Result<Module, AllocError>
     requires { IsModule header.now.field (algebra_at m.now.side header.now).quiver m.now }
     ensures { IfOk result (λ dual. dual ≡ dual_of header.now.field (algebra_at m.now.side header.now).quiver m.now) }
 {

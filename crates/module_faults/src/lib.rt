@@ -16,7 +16,9 @@ mod modules;
 mod next_arrows;
 mod relations;
 mod shapes;
+mod short_relations;
 
+pub use duals::dual_module;
 pub use long_paths::first_long_path;
 pub use maps::check_map;
 pub use modules::check_module;

@@ -1,6 +1,6 @@
 use Rattle.std.proofs.Common.{inl, inr, sym, subst, arith}
 use Rattle.std.proofs.lemmas.Bool.{cases_eq}
-use Rattle.module_checks.specs.RowWalks.{ActsAsZero}
+use Rattle.module_faults.specs.RelationActions.{IsRelationZero}
 use Rattle.module_faults.proofs.FirstRelations.{first_at}
 use Rattle.module_faults.proofs.relations.first_failing.Goals as goal
 
@@ -8,12 +8,12 @@ pub loop-r-preserved : goal.loop-r-preserved
 loop-r-preserved c = record {
   zero = record {
     each = λ s l. elim (cases_eq s c.loop-r.r) [
-      | inl e ↦ subst (ActsAsZero c.args.header.now c.args.m.now) (sym e) c.if-not-acts_as_zero.ensures.zero
+      | inl e ↦ subst (IsRelationZero c.args.header.now c.args.m.now) (sym e) c.if-not-is_relation_zero.ensures.zero
       | inr d ↦ c.loop-r.invariant.zero.each s (omega arith)
     ];
   };
-  next_elements = c.acts_as_zero.ensures.next_elements;
+  next_elements = c.is_relation_zero.ensures.next_elements;
 }
 
-pub returns-then-not-acts_as_zero : goal.returns-then-not-acts_as_zero
-returns-then-not-acts_as_zero c = first_at c.args.header.now c.args.m.now c.loop-r.r (omega (arith, c.loop-r-test.true, c.len-r-end.ensures)) c.loop-r.invariant.zero c.if-not-acts_as_zero.ensures.zero
+pub returns-then-not-is_relation_zero : goal.returns-then-not-is_relation_zero
+returns-then-not-is_relation_zero c = first_at c.args.header.now c.args.m.now c.loop-r.r (omega (arith, c.loop-r-test.true, c.len-r-end.ensures)) c.loop-r.invariant.zero c.if-not-is_relation_zero.ensures.zero
