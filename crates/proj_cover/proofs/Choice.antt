@@ -1,9 +1,8 @@
 -- The canonical term is what the choice of generators asks of term 0.
-use Rattle.std.proofs.Common.{ℕ, zero, suc, ◌<◌, ◌≤◌, ◌≡◌, List, [], ◌∷◌, length, get_or, refl, sym, ap, ◌∙◌, subst, arith, mod-eq_of_lt}
-use Rattle.std.specs.Prelude.{slice_index_or, eqb, cond}
-use Rattle.std.proofs.lemmas.List.{length-map, get_or-map}
+use Rattle.std.proofs.Common.{ℕ, zero, suc, ◌<◌, ◌≡◌, [], ◌∷◌, length, get_or, sym, ap, ◌∙◌, subst, arith}
+use Rattle.std.specs.Prelude.{slice_index_or}
 use Rattle.linear_algebra.specs.Field.{Gf}
-use Rattle.linear_algebra.specs.Matrix.{Row, Mat-eq_below, one, delta}
+use Rattle.linear_algebra.specs.Matrix.{Mat-eq_below, one, delta}
 use Rattle.linear_algebra.specs.Parts.{row}
 use Rattle.linear_algebra.specs.PartsLaws.{row-at}
 use Rattle.linear_algebra.specs.MatrixLaws.{one-at}
@@ -13,16 +12,14 @@ use Rattle.linear_algebra.proofs.Rows.{get_or-unit}
 use Rattle.linear_algebra.proofs.Typed.{as_row-entry}
 use Rattle.representations.specs.Quiver.{Quiver}
 use Rattle.representations.specs.Rep.{Rep}
-use Rattle.representations.specs.Submodule.{sub_rep}
 use Rattle.projectives.specs.Words.{Words}
-use Rattle.projectives.specs.Canonical.{Place, free_places, canonical_vertices, canonical_columns}
-use Rattle.projectives.specs.ReducedSubmodule.{whole}
+use Rattle.projectives.specs.Canonical.{canonical_vertices, canonical_columns}
 use Rattle.projectives.proofs.CanonicalPlaces.{canonical_free}
 use Rattle.projectives.proofs.KernelCovers.{whole_rep}
 use Rattle.module_types.specs.declared.TermRows.{TermRows}
 use Rattle.claim_conditions.specs.ResolutionConditions.{IsChosen}
-use Rattle.proj_cover.specs.CanonicalTerms.{unit_at, canonical_term}
-use Rattle.proj_cover.proofs.Terms.{unit_row, term_vertex, term_image, place, no_place}
+use Rattle.proj_cover.specs.CanonicalTerms.{canonical_term}
+use Rattle.proj_cover.proofs.Terms.{unit_row, term_vertex, term_column, term_image}
 
 unit_is_row : (q : Gf) (n c : ℕ) → c < n → as_row q n (unit n c) ≡ row c (one q n)
 unfolding delta row
@@ -33,17 +30,13 @@ unit_is_row q n c l = Mat-eq_below _ _ entries
     entries (suc i) j a b = absurd (omega (arith, a))
 
 module _ {q : Gf} {Q : Quiver} (W : Words q Q) (X : Rep q Q) where
-  column_is : (j : ℕ) → j < length (canonical_vertices X) → get_or (canonical_columns X) j zero ≡ (place X j).column
-  unfolding place
-  column_is j l = get_or-map (λ (p : Place). p.column) (free_places X Q.vertices) j (no_place X) zero (subst (λ n. j < n) (length-map (free_places X Q.vertices) (λ p. p.vertex)) l)
-
   -- generator j goes to a row of the unit matrix
   generator_is : (j : ℕ) → j < length (canonical_vertices X)
       → as_row q (X.dim (get_or (canonical_vertices X) j zero)) (slice_index_or (canonical_term X).images j []) ≡ row (get_or (canonical_columns X) j zero) (one q (X.dim (get_or (canonical_vertices X) j zero)))
   generator_is j l =
       let v = get_or (canonical_vertices X) j zero in
       let c = get_or (canonical_columns X) j zero in
-      let image : slice_index_or (canonical_term X).images j [] ≡ unit (X.dim v) c = term_image X j l ∙ sym ((λ k. unit (X.dim (term_vertex X j l k)) (column_is j l k))) in
+      let image : slice_index_or (canonical_term X).images j [] ≡ unit (X.dim v) c = term_image X j l ∙ sym ((λ k. unit (X.dim (term_vertex X j l k)) (term_column X j l k))) in
       ap (as_row q (X.dim v)) image ∙ unit_is_row q (X.dim v) c ((canonical_free X).inside j l)
 
   canonical_chosen : IsChosen W X (canonical_term X ∷ []) 0

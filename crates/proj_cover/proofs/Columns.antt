@@ -1,10 +1,10 @@
 -- Columns with a pivot and without, one after another.
-use Rattle.std.proofs.Common.{ℕ, zero, suc, ◌<◌, ◌≤◌, ◌≡◌, ◌≢◌, ◌+◌, List, [], ◌∷◌, ◌++◌, map, length, get_or, set, replicate, Bool, true, false, cond, inl, inr, refl, sym, ap, ap₂, ◌∙◌, arith, subst, add-one, get_or-set_same, get_or-set_other}
-use Rattle.std.specs.Prelude.{slice_index, eqb}
+use Rattle.std.proofs.Common.{ℕ, zero, suc, ◌<◌, ◌≡◌, ◌≢◌, ◌+◌, List, [], ◌∷◌, ◌++◌, map, length, get_or, set, replicate, true, false, cond, inl, inr, refl, sym, ap, ap₂, ◌∙◌, arith, subst, add-one, get_or-set_same, get_or-set_other}
+use Rattle.std.specs.Prelude.{eqb}
 use Rattle.std.proofs.lemmas.Bool.{cases_eq, cond-true, cond-false, eq-eqb, ne_eqb, true_from_ne_false, false_from_ne_true}
 use Rattle.std.proofs.lemmas.List.{append-nil, map-append, length-replicate, length-set, get_or-replicate}
 use Rattle.linear_algebra.specs.Field.{Gf}
-use Rattle.linear_algebra.specs.Rows.{unit, list_of}
+use Rattle.linear_algebra.specs.Rows.{unit}
 use Rattle.linear_algebra.proofs.Rows.{list_of-is}
 use Rattle.representations.specs.Quiver.{Quiver}
 use Rattle.representations.specs.Rep.{Rep}
@@ -48,12 +48,24 @@ module _ {q : Gf} {Q : Quiver} (X : Rep q Q) (w c : ℕ) (before : List Place) w
       added : (places : List Place) → ◌≡◌ {A = TermRows} (record { vertices = map (λ (p : Place). p.vertex) places ++ w ∷ []; images = map (unit_at X) places ++ unit (X.dim w) c ∷ [] }) (term_of X (places ++ here ∷ []))
       added places = λ k. record { vertices = sym (map-append (λ (p : Place). p.vertex) places (here ∷ [])) k; images = sym (map-append (unit_at X) places (here ∷ [])) k }
 
-pub unit_written : (n c : ℕ) → c < n → set (replicate n 0) c 1 ≡ unit n c
-unfolding unit
-unit_written n c l = list_of-is n _ (set (replicate n 0) c 1) 0 (length-set (replicate n 0) c 1 ∙ length-replicate n 0) (λ i b. elim (cases_eq c i) [
-  | inl e ↦ subst (λ i. get_or (set (replicate n 0) c 1) i 0 ≡ cond (eqb c i) 1 0) e (get_or-set_same (replicate n 0) c 1 0 (let m = length-replicate n 0 in omega (arith, m, l)) ∙ sym (cond-true (eqb c c) 1 0 (eq-eqb c c refl)))
+inside : (n c : ℕ) → c < n → c < length (replicate {A = ℕ} n 0)
+inside n c l = subst (λ m. c < m) (sym (length-replicate {A = ℕ} n 0)) l
+
+abbrev one_at : ℕ → ℕ → List ℕ
+one_at n c = set (replicate n 0) c 1
+
+abbrev unit_entry : ℕ → ℕ → ℕ
+unit_entry c i = cond (eqb c i) 1 0
+
+one_entry : (n c i : ℕ) → c < n → i < n → get_or (one_at n c) i 0 ≡ unit_entry c i
+one_entry n c i l b = elim (cases_eq c i) [
+  | inl e ↦ subst (λ i. get_or (one_at n c) i 0 ≡ unit_entry c i) e (get_or-set_same (replicate n 0) c 1 0 (inside n c l) ∙ sym (cond-true (eqb c c) 1 0 (eq-eqb c c refl)))
   | inr d ↦ get_or-set_other (replicate n 0) c i 1 0 (λ e. d (sym e)) ∙ get_or-replicate n i 0 0 b ∙ sym (cond-false (eqb c i) 1 0 (ne_eqb c i d))
-])
+]
+
+pub unit_written : (n c : ℕ) → c < n → one_at n c ≡ unit n c
+unfolding unit
+unit_written n c l = list_of-is n (unit_entry c) (one_at n c) 0 (length-set (replicate n 0) c 1 ∙ length-replicate n 0) (λ i b. one_entry n c i l b)
 
 pub free_none : {q : Gf} {Q : Quiver} (X : Rep q Q) (w : ℕ) (before : List Place) → with_free X w 0 before ≡ before
 unfolding with_free

@@ -1,11 +1,11 @@
 -- The pivots of a basis of the radical at a vertex.
-use Rattle.std.proofs.Common.{ℕ, ◌<◌, ◌≡◌, List, length, get_or, sym, ap, ◌∙◌, subst}
+use Rattle.std.proofs.Common.{ℕ, ◌≡◌, List, length, get_or, sym, ap, ◌∙◌, subst}
 use Rattle.std.specs.Prelude.{slice_index}
 use Rattle.linear_algebra.specs.Field.{Gf}
 use Rattle.linear_algebra.specs.Reduced.{pivots_of}
 use Rattle.linear_algebra.specs.Rows.{IsGrid}
 use Rattle.linear_algebra.specs.Typed.{as_mat}
-use Rattle.fp_linear.specs.Matrix.{PlainMatrix, plain}
+use Rattle.fp_linear.specs.Matrix.{PlainMatrix}
 use Rattle.row_spaces.proofs.PivotEntries.{pivots_read, pivots_count}
 use Rattle.representations.specs.Quiver.{Quiver}
 use Rattle.representations.specs.Rep.{Rep}

@@ -1,5 +1,5 @@
 -- The canonical term of a module: its shape, and how many generators it has.
-use Rattle.std.proofs.Common.{ℕ, zero, suc, ◌<◌, ◌≤◌, ◌≡◌, ◌+◌, List, [], ◌∷◌, ◌++◌, map, length, get_or, Bool, true, false, cond, eqb, inl, inr, refl, sym, ap, ◌∙◌, subst, arith, length-append}
+use Rattle.std.proofs.Common.{ℕ, zero, suc, ◌<◌, ◌≤◌, ◌≡◌, ◌+◌, List, [], ◌∷◌, length, get_or, Bool, true, false, cond, eqb, inl, inr, sym, ap, ◌∙◌, subst, arith, length-append}
 use Rattle.std.specs.Prelude.{slice_index, slice_index_or}
 use Rattle.std.proofs.lemmas.Bool.{cond_both, cases_lt}
 use Rattle.std.proofs.lemmas.List.{length-map, get_or-map, get_or_past}
@@ -8,12 +8,11 @@ use Rattle.linear_algebra.specs.FieldLaws.{order-pos, one-lt-order}
 use Rattle.linear_algebra.specs.BlockFamilies.{total}
 use Rattle.linear_algebra.specs.Rows.{unit, IsRow}
 use Rattle.linear_algebra.proofs.Rows.{length-list_of, get_or-unit}
-use Rattle.quiver_paths.specs.Quiver.{vertex_count}
 use Rattle.path_algebra.specs.declared.Header.{Header}
 use Rattle.bound_algebra.specs.TypedPaths.{quiver_of}
 use Rattle.representations.specs.Quiver.{Quiver}
 use Rattle.representations.specs.Rep.{Rep}
-use Rattle.projectives.specs.Canonical.{Place, is_pivot, with_free, free_places, canonical_vertices}
+use Rattle.projectives.specs.Canonical.{Place, is_pivot, with_free, free_places, canonical_vertices, canonical_columns}
 use Rattle.projectives.proofs.CanonicalPlaces.{canonical_free}
 use Rattle.module_types.specs.declared.Side.{Side}
 use Rattle.module_types.specs.declared.Side.TheVariants.{Right, Left}
@@ -25,15 +24,15 @@ use Rattle.module_types.specs.Shapes.{IsModule, IsTerm, dimension}
 use Rattle.module_types.proofs.Written.{total-same, dim_at-below}
 use Rattle.term_rows.specs.SumDims.{AreVertices}
 use Rattle.standard_modules.proofs.Modules.{vertices_at}
-use Rattle.proj_cover.specs.CanonicalTerms.{unit_at, term_of, canonical_term}
+use Rattle.proj_cover.specs.CanonicalTerms.{unit_at, canonical_term}
 
 pub unit_row : (q : Gf) (n c : ℕ) → IsRow q n (unit n c)
 unfolding unit
 unit_row q n c = record {
-  count = length-list_of n _;
+  count = length-list_of {X = ℕ} n _;
   small = λ j. elim (cases_lt j n) [
     | inl l ↦ subst (λ z. z < order q) (sym (get_or-unit n c j l)) (cond_both (eqb c j) 1 0 (λ z. z < order q) (λ e. one-lt-order q) (λ e. order-pos q))
-    | inr b ↦ subst (λ z. z < order q) (sym (get_or_past (unit n c) j 0 (let e = length-list_of n (λ j. cond (eqb c j) 1 0) in omega (arith, e, b)))) (order-pos q)
+    | inr b ↦ subst (λ z. z < order q) (sym (get_or_past (unit n c) j 0 (let e = length-list_of {X = ℕ} n (λ j. cond (eqb c j) 1 0) in omega (arith, e, b)))) (order-pos q)
   ];
 }
 
@@ -45,6 +44,10 @@ module _ {q : Gf} {Q : Quiver} (X : Rep q Q) where
   place j = get_or (free_places X Q.vertices) j no_place
 
   -- what stands in the term for generator j
+  pub term_column : (j : ℕ) → j < length (canonical_vertices X) → get_or (canonical_columns X) j zero ≡ (place j).column
+  unfolding place
+  term_column j l = get_or-map (λ (p : Place). p.column) (free_places X Q.vertices) j no_place zero (subst (λ n. j < n) (length-map (free_places X Q.vertices) (λ p. p.vertex)) l)
+
   pub term_vertex : (j : ℕ) → j < length (canonical_vertices X) → get_or (canonical_vertices X) j zero ≡ (place j).vertex
   unfolding place
   term_vertex j l = get_or-map (λ (p : Place). p.vertex) (free_places X Q.vertices) j no_place zero (subst (λ n. j < n) (length-map (free_places X Q.vertices) (λ p. p.vertex)) l)
