@@ -14,7 +14,7 @@ pub use duals::dual;
 use fp_linear::Matrix;
 pub use kernels::{cokernel, image, kernel};
 use module_types::Module;
-pub use radicals::{radical, top};
+pub use radicals::{radical, radical_bases, top};
 use seq::Seq;
 pub use sums::sum;
 

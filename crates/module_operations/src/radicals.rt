@@ -46,7 +46,7 @@ pub fn top(alloc: Global, header: &Header, a: &Module) -> Result<MappedModule, A
 }
 
 /// At each vertex the basis in reduced row form of what comes along arrows.
-fn radical_bases(alloc: Global, header: &Header, a: &Module) -> Result<Seq<Matrix>, AllocError>
+pub fn radical_bases(alloc: Global, header: &Header, a: &Module) -> Result<Seq<Matrix>, AllocError>
     requires allowed { IsAllowed header.now }
     requires shape { IsModule header.now.field (algebra_at a.now.side header.now).quiver a.now }
     ensures { IfOk result (HaveForms (read header.now a.now) (arrow_size (read header.now a.now)) (arrow_family (read header.now a.now)) (vertex_count header.now.quiver)) }

@@ -3,4 +3,4 @@ pub mod Counted
 pub mod ArrowRows
 pub mod Modules
 pub mod SimpleLists
-pub mod SumsOfInjectives
+pub mod SumDimensions

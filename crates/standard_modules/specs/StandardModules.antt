@@ -24,19 +24,22 @@ use Rattle.standard_modules.specs.declared.StandardError.{StandardError}
 use Rattle.standard_modules.specs.declared.StandardError.TheVariants.{DimLimit, NoMemory}
 
 module _ (h : Header) (words : List Path) where
-  -- The dimensions of the projective module at a vertex, of the injective one, and of the sum of the injective modules at some vertices: as many as there
-  -- are words of the side from the vertex, or of the other side.
+  -- The dimensions of the projective module at a vertex and of the injective one: as many as there are words of the side from the vertex, or of the other
+  -- side. Then those of the sums of such modules at some vertices.
   abbrev pub projective_dim : Side → ℕ → ℕ
   projective_dim side v = total (vertex_count h.quiver) (count_to words side v)
 
   abbrev pub injective_dim : Side → ℕ → ℕ
   injective_dim side v = projective_dim (other_side side) v
 
-  abbrev pub injective_dim_at : Side → List ℕ → ℕ → ℕ
-  injective_dim_at side vertices j = injective_dim side (slice_index vertices j)
+  abbrev pub projective_dim_at : Side → List ℕ → ℕ → ℕ
+  projective_dim_at side vertices j = projective_dim side (slice_index vertices j)
+
+  abbrev pub projectives_dim : Side → List ℕ → ℕ
+  projectives_dim side vertices = total (length vertices) (projective_dim_at side vertices)
 
   abbrev pub injectives_dim : Side → List ℕ → ℕ
-  injectives_dim side vertices = total (length vertices) (injective_dim_at side vertices)
+  injectives_dim side vertices = projectives_dim (other_side side) vertices
 
   module _ (t : IsTable h words) (side : Side) (v : ℕ) where
     abbrev pub projective_rep : Rep h.field (algebra_at side h).quiver

@@ -3,7 +3,7 @@ ghost use Rattle.std.specs.Prelude.{ℕ, ◌≡◌, ◌<◌, ◌≤◌, length, 
 ghost use Rattle.linear_algebra.specs.Rows.{list_of};
 ghost use Rattle.quiver_paths.specs.Quiver.{vertex_count};
 ghost use Rattle.term_rows.specs.SumDims.{count_to, AreVertices};
-ghost use Rattle.standard_modules.specs.StandardModules.{projective_dim, injective_dim, injectives_dim};
+ghost use Rattle.standard_modules.specs.StandardModules.{projective_dim, injective_dim, projectives_dim, injectives_dim};
 
 use crate::sides::side_in_table;
 use alg_table::Table;
@@ -34,6 +34,19 @@ pub fn injective_dim(table: &Table, side: Side, v: u8) -> u64
     projective_dim(table, side.other(), v)
 }
 
+/// The dimension of the sum of the projective modules of a side at at most 512 vertices.
+pub fn projectives_dim(table: &Table, side: Side, vertices: &[u8]) -> u64
+    requires vertices { AreVertices table.now.header vertices.now }
+    requires few { length vertices.now ≤ 512 }
+    ensures { result ≡ projectives_dim table.now.header table.now.words side vertices.now }
+{
+    let mut dim = 0u64;
+    for j in 0..vertices.len() {
+        dim += projective_dim(table, side, vertices[j]);
+    }
+    dim
+}
+
 /// The dimension of the sum of the injective modules of a side at at most 512 vertices: what the Nakayama functor makes of the sum of the projective
 /// modules there.
 pub fn nakayama_dim(table: &Table, side: Side, vertices: &[u8]) -> u64
@@ -41,11 +54,7 @@ pub fn nakayama_dim(table: &Table, side: Side, vertices: &[u8]) -> u64
     requires few { length vertices.now ≤ 512 }
     ensures { result ≡ injectives_dim table.now.header table.now.words side vertices.now }
 {
-    let mut dim = 0u64;
-    for j in 0..vertices.len() {
-        dim += injective_dim(table, side, vertices[j]);
-    }
-    dim
+    projectives_dim(table, side.other(), vertices)
 }
 
 /// The dimension at each vertex of the projective module of a side at a vertex.

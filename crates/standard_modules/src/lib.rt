@@ -14,7 +14,7 @@ mod simples;
 mod standard;
 mod transposing;
 
-pub use dimensions::{injective_dim, nakayama_dim, projective_dim};
+pub use dimensions::{injective_dim, nakayama_dim, projective_dim, projectives_dim};
 pub use simples::simple_module;
 pub use standard::{injective_module, projective_module};
 

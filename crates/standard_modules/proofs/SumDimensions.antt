@@ -1,4 +1,4 @@
--- The dimension of a sum of injective modules.
+-- The dimensions of sums of projective modules and of injective ones.
 use Rattle.std.proofs.Common.{ℕ, zero, suc, ◌<◌, ◌≡◌, ◌+◌, List, length, refl, sym, ap, ◌∙◌, arith}
 use Rattle.linear_algebra.specs.BlockFamilies.{total}
 use Rattle.linear_algebra.proofs.BlockFamilies.{total-same}
@@ -7,7 +7,7 @@ use Rattle.quiver_paths.specs.Quiver.{vertex_count}
 use Rattle.path_algebra.specs.declared.Header.{Header}
 use Rattle.alg_table.specs.TableView.{IsTable}
 use Rattle.projectives.specs.Words.{projective}
-use Rattle.projectives.specs.CanonicalCover.{vertex_in}
+use Rattle.projectives.specs.CanonicalCover.{vertex_in, projectives_at}
 use Rattle.projectives.specs.Injective.{injectives}
 use Rattle.projectives.specs.TwoSided.{other}
 use Rattle.projectives.proofs.Places.{sum_family-dim}
@@ -15,7 +15,8 @@ use Rattle.bound_tables.specs.TableSides.{table_sides}
 use Rattle.module_types.specs.declared.Side.{Side}
 use Rattle.module_types.specs.Algebras.{other_side, sided_words}
 use Rattle.term_rows.specs.SumDims.{count_to}
-use Rattle.standard_modules.specs.StandardModules.{injectives_dim}
+use Rattle.term_rows.proofs.SumSteps.{sum_dim_is}
+use Rattle.standard_modules.specs.StandardModules.{projectives_dim, injectives_dim}
 use Rattle.standard_modules.proofs.Modules.{injective_dims}
 
 total-none : (k : ℕ) (f : ℕ → ℕ) → ((i : ℕ) → i < k → f i ≡ 0) → total k f ≡ 0
@@ -38,3 +39,9 @@ injectives_total h words t side vertices =
     sum_family-dim (length vertices) (λ c. projective (other (sided_words side (table_sides h words t))) (vertex_in vertices c)) w
     ∙ total-same (length vertices) _ _ (λ j m. injective_dims h words t side (vertex_in vertices j) w))
     ∙ total-swap (vertex_count h.quiver) (length vertices) (λ j w. count_to words (other_side side) (vertex_in vertices j) w)
+
+pub projectives_total : (h : Header) (words : List Path) (t : IsTable h words) (side : Side) (vertices : List ℕ)
+    → total (vertex_count h.quiver) (projectives_at (sided_words side (table_sides h words t)).words vertices).dim ≡ projectives_dim h words side vertices
+projectives_total h words t side vertices =
+    total-same (vertex_count h.quiver) _ _ (λ w l. sum_dim_is h words t side vertices w)
+    ∙ total-swap (vertex_count h.quiver) (length vertices) (λ j w. count_to words side (vertex_in vertices j) w)

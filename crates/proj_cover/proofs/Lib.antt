@@ -1,0 +1,4 @@
+pub mod Columns
+pub mod Pivots
+pub mod Terms
+pub mod Choice

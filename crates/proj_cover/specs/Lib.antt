@@ -1,0 +1,2 @@
+pub mod CanonicalTerms
+pub mod CoverLimits
