@@ -1,6 +1,5 @@
 //! Writing the last line. Each writer adds behind what is there; where memory is wanting, `Err`, and a front of the line may stand there.
 ghost use Rattle.std.specs.Prelude.{◌≡◌, ◌++◌, ◌∷◌, [], OnOk, decimal, codes};
-ghost use Rattle.text_lines.specs.Adding.{Adds};
 ghost use Rattle.text_lines.specs.Strict.{strict_line};
 ghost use Rattle.header_text.specs.Spelling.{arrow_name, path_text};
 ghost use Rattle.claim_lines.specs.Spelling.{behind_spaces, suffix_text, reference_text, why_form, end_line};
@@ -14,7 +13,7 @@ use std::alloc::AllocError;
 use text_lines::push_numeral;
 
 fn push_suffix(out: &mut Vec<u8>, suffix: Suffix) -> Result<(), AllocError>
-    ensures { Adds (suffix_text suffix) out.old.items out.new.items result }
+    ensures { OnOk result (out.new.items ≡ out.old.items ++ suffix_text suffix) }
 {
     match suffix {
         Suffix::Whole => {}
@@ -30,7 +29,7 @@ fn push_suffix(out: &mut Vec<u8>, suffix: Suffix) -> Result<(), AllocError>
 
 /// Adds a word behind a space.
 fn push_bare(out: &mut Vec<u8>, word: &[u8]) -> Result<(), AllocError>
-    ensures { Adds (behind_spaces (word.now ∷ [])) out.old.items out.new.items result }
+    ensures { OnOk result (out.new.items ≡ out.old.items ++ behind_spaces (word.now ∷ [])) }
 {
     out.push(b' ')?;
     out.extend_from_slice(word)?;
@@ -39,7 +38,7 @@ fn push_bare(out: &mut Vec<u8>, word: &[u8]) -> Result<(), AllocError>
 
 /// Adds a word and a number.
 fn push_limit(out: &mut Vec<u8>, word: &[u8], n: u64) -> Result<(), AllocError>
-    ensures { Adds (behind_spaces (word.now ∷ decimal n ∷ [])) out.old.items out.new.items result }
+    ensures { OnOk result (out.new.items ≡ out.old.items ++ behind_spaces (word.now ∷ decimal n ∷ [])) }
 {
     push_bare(out, word)?;
     push_number(out, n)?;
@@ -48,7 +47,7 @@ fn push_limit(out: &mut Vec<u8>, word: &[u8], n: u64) -> Result<(), AllocError>
 
 /// Adds a word and two numbers.
 fn push_term_limit(out: &mut Vec<u8>, word: &[u8], step: u32, n: u64) -> Result<(), AllocError>
-    ensures { Adds (behind_spaces (word.now ∷ decimal step ∷ decimal n ∷ [])) out.old.items out.new.items result }
+    ensures { OnOk result (out.new.items ≡ out.old.items ++ behind_spaces (word.now ∷ decimal step ∷ decimal n ∷ [])) }
 {
     push_limit(out, word, step as u64)?;
     push_number(out, n)?;
@@ -56,7 +55,7 @@ fn push_term_limit(out: &mut Vec<u8>, word: &[u8], step: u32, n: u64) -> Result<
 }
 
 fn push_unknown(out: &mut Vec<u8>, token: &Reference) -> Result<(), AllocError>
-    ensures { Adds (behind_spaces (codes "UnknownName" ∷ reference_text token.now ∷ [])) out.old.items out.new.items result }
+    ensures { OnOk result (out.new.items ≡ out.old.items ++ behind_spaces (codes "UnknownName" ∷ reference_text token.now ∷ [])) }
 {
     out.extend_from_slice(b" UnknownName ")?;
     out.extend_from_slice(token.name.text())?;
@@ -65,7 +64,7 @@ fn push_unknown(out: &mut Vec<u8>, token: &Reference) -> Result<(), AllocError>
 }
 
 fn push_taken(out: &mut Vec<u8>, name: &Name) -> Result<(), AllocError>
-    ensures { Adds (behind_spaces (codes "NameTaken" ∷ name.now ∷ [])) out.old.items out.new.items result }
+    ensures { OnOk result (out.new.items ≡ out.old.items ++ behind_spaces (codes "NameTaken" ∷ name.now ∷ [])) }
 {
     push_bare(out, b"NameTaken")?;
     push_bare(out, name.text())?;
@@ -73,7 +72,7 @@ fn push_taken(out: &mut Vec<u8>, name: &Name) -> Result<(), AllocError>
 }
 
 fn push_bound_fails(out: &mut Vec<u8>, header: &Header, path: &Path) -> Result<(), AllocError>
-    ensures { Adds (behind_spaces (codes "BoundFails" ∷ path_text header.now.quiver path.now ∷ [])) out.old.items out.new.items result }
+    ensures { OnOk result (out.new.items ≡ out.old.items ++ behind_spaces (codes "BoundFails" ∷ path_text header.now.quiver path.now ∷ [])) }
 {
     out.extend_from_slice(b" BoundFails ")?;
     push_path(out, &header.quiver, path)?;
@@ -81,7 +80,7 @@ fn push_bound_fails(out: &mut Vec<u8>, header: &Header, path: &Path) -> Result<(
 }
 
 fn push_not_hom(out: &mut Vec<u8>, header: &Header, arrow: u8) -> Result<(), AllocError>
-    ensures { Adds (behind_spaces (codes "NotHom" ∷ arrow_name header.now.quiver arrow ∷ [])) out.old.items out.new.items result }
+    ensures { OnOk result (out.new.items ≡ out.old.items ++ behind_spaces (codes "NotHom" ∷ arrow_name header.now.quiver arrow ∷ [])) }
 {
     push_bare(out, b"NotHom")?;
     push_arrow_name(out, &header.quiver, arrow)?;
@@ -90,7 +89,7 @@ fn push_not_hom(out: &mut Vec<u8>, header: &Header, arrow: u8) -> Result<(), All
 
 /// Adds the cause of a refusal.
 fn push_why(out: &mut Vec<u8>, header: &Header, why: &Why) -> Result<(), AllocError>
-    ensures { Adds (behind_spaces (why_form header.now why.now)) out.old.items out.new.items result }
+    ensures { OnOk result (out.new.items ≡ out.old.items ++ behind_spaces (why_form header.now why.now)) }
 {
     match why {
         Why::NotBuilt => push_bare(out, b"NotBuilt"),
@@ -113,7 +112,7 @@ fn push_why(out: &mut Vec<u8>, header: &Header, why: &Why) -> Result<(), AllocEr
 }
 
 fn push_refused(out: &mut Vec<u8>, header: &Header, line: u32, why: &Why) -> Result<(), AllocError>
-    ensures { Adds (strict_line (codes "refused" ∷ decimal line ∷ why_form header.now why.now)) out.old.items out.new.items result }
+    ensures { OnOk result (out.new.items ≡ out.old.items ++ strict_line (codes "refused" ∷ decimal line ∷ why_form header.now why.now)) }
 {
     out.extend_from_slice(b"refused")?;
     push_number(out, line as u64)?;
@@ -129,7 +128,7 @@ pub fn push_end(
     claims: u64,
     end: &End,
 ) -> Result<(), AllocError>
-    ensures { Adds (strict_line (end_line header.now claims end.now)) out.old.items out.new.items result }
+    ensures { OnOk result (out.new.items ≡ out.old.items ++ strict_line (end_line header.now claims end.now)) }
 {
     match end {
         End::Done => push_count(out, b"end", claims),

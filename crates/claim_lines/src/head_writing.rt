@@ -1,6 +1,5 @@
 //! Writing the first lines of claims. Each writer adds behind what is there; where memory is wanting, `Err`, and a front of the line may stand there.
 ghost use Rattle.std.specs.Prelude.{◌≡◌, ◌++◌, ◌∷◌, [], map, OnOk, decimal, codes};
-ghost use Rattle.text_lines.specs.Adding.{Adds};
 ghost use Rattle.text_lines.specs.Strict.{strict_line};
 ghost use Rattle.claim_lines.specs.Spelling.{behind_spaces, parts_form, translate_form, head_form, claim_line};
 ghost use Rattle.claim_lines.specs.Reading.{IsLong};
@@ -11,9 +10,8 @@ use report_types::{PartClaim, Translation};
 use std::alloc::AllocError;
 
 /// Adds each number behind a space.
-#[tactic(auto, using(text_lines::proofs::Prefixes::prefix_behind))]
 fn push_numbers(out: &mut Vec<u8>, numbers: &[u32]) -> Result<(), AllocError>
-    ensures { Adds (behind_spaces (map decimal numbers.now)) out.old.items out.new.items result }
+    ensures { OnOk result (out.new.items ≡ out.old.items ++ behind_spaces (map decimal numbers.now)) }
 {
     for n in numbers {
         push_number(out, *n as u64)?;
@@ -23,7 +21,7 @@ fn push_numbers(out: &mut Vec<u8>, numbers: &[u32]) -> Result<(), AllocError>
 
 /// Adds a word and numbers, each behind a space.
 fn push_form(out: &mut Vec<u8>, word: &[u8], numbers: &[u32]) -> Result<(), AllocError>
-    ensures { Adds (behind_spaces (word.now ∷ map decimal numbers.now)) out.old.items out.new.items result }
+    ensures { OnOk result (out.new.items ≡ out.old.items ++ behind_spaces (word.now ∷ map decimal numbers.now)) }
 {
     out.push(b' ')?;
     out.extend_from_slice(word)?;
@@ -38,16 +36,15 @@ fn push_using(
     numbers: &[u32],
     claims: &[u32],
 ) -> Result<(), AllocError>
-    ensures { Adds (behind_spaces (word.now ∷ (map decimal numbers.now ++ codes "using" ∷ map decimal claims.now))) out.old.items out.new.items result }
+    ensures { OnOk result (out.new.items ≡ out.old.items ++ behind_spaces (word.now ∷ (map decimal numbers.now ++ codes "using" ∷ map decimal claims.now))) }
 {
     push_form(out, word, numbers)?;
     push_form(out, b"using", claims)?;
     Ok(())
 }
 
-#[tactic(auto, using(text_lines::proofs::Prefixes::prefix_behind, text_lines::proofs::Prefixes::prefix_behind_two))]
 fn push_parts(out: &mut Vec<u8>, parts: &[PartClaim]) -> Result<(), AllocError>
-    ensures { Adds (behind_spaces (parts_form parts.now)) out.old.items out.new.items result }
+    ensures { OnOk result (out.new.items ≡ out.old.items ++ behind_spaces (parts_form parts.now)) }
 {
     for part in parts {
         push_number(out, part.module as u64)?;
@@ -61,7 +58,7 @@ fn push_decomposition(
     numbers: &[u32],
     parts: &[PartClaim],
 ) -> Result<(), AllocError>
-    ensures { Adds (behind_spaces (codes "decomposition" ∷ (map decimal numbers.now ++ codes "parts" ∷ parts_form parts.now))) out.old.items out.new.items result }
+    ensures { OnOk result (out.new.items ≡ out.old.items ++ behind_spaces (codes "decomposition" ∷ (map decimal numbers.now ++ codes "parts" ∷ parts_form parts.now))) }
 {
     push_form(out, b"decomposition", numbers)?;
     out.extend_from_slice(b" parts")?;
@@ -76,7 +73,7 @@ fn push_translate(
     a: u32,
     resolution: u32,
 ) -> Result<(), AllocError>
-    ensures { Adds (behind_spaces (translate_form which translate a resolution)) out.old.items out.new.items result }
+    ensures { OnOk result (out.new.items ≡ out.old.items ++ behind_spaces (translate_form which translate a resolution)) }
 {
     match which {
         Translation::Tau => push_using(out, b"tau", &[translate, a], &[resolution]),
@@ -93,7 +90,7 @@ fn push_translate(
 /// Adds what the line says of extensions, a decomposition, a translate or an almost split sequence.
 fn push_long_head(out: &mut Vec<u8>, head: &Head) -> Result<(), AllocError>
     requires { IsLong head.now }
-    ensures { Adds (behind_spaces (head_form head.now)) out.old.items out.new.items result }
+    ensures { OnOk result (out.new.items ≡ out.old.items ++ behind_spaces (head_form head.now)) }
 {
     match head {
         Head::Ext {
@@ -136,7 +133,7 @@ fn push_long_head(out: &mut Vec<u8>, head: &Head) -> Result<(), AllocError>
 
 /// Adds what the line says behind the claim's number and its line.
 fn push_head(out: &mut Vec<u8>, head: &Head) -> Result<(), AllocError>
-    ensures { Adds (behind_spaces (head_form head.now)) out.old.items out.new.items result }
+    ensures { OnOk result (out.new.items ≡ out.old.items ++ behind_spaces (head_form head.now)) }
 {
     match head {
         Head::Basis => push_form(out, b"basis", &[]),
@@ -169,7 +166,7 @@ fn push_head(out: &mut Vec<u8>, head: &Head) -> Result<(), AllocError>
 
 /// Adds the first line of claim k, which a line of the script asks for. Both numbers count from 1.
 pub fn push_claim_line(out: &mut Vec<u8>, k: u32, line: u32, head: &Head) -> Result<(), AllocError>
-    ensures { Adds (strict_line (claim_line k line head.now)) out.old.items out.new.items result }
+    ensures { OnOk result (out.new.items ≡ out.old.items ++ strict_line (claim_line k line head.now)) }
 {
     out.extend_from_slice(b"claim")?;
     push_number(out, k as u64)?;

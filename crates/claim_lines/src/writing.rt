@@ -1,6 +1,5 @@
 //! Writing lines. Each writer adds behind what is there; where memory is wanting, `Err`, and a front of the line may stand there.
 ghost use Rattle.std.specs.Prelude.{◌≡◌, ◌++◌, ◌∷◌, [], OnOk, decimal, codes};
-ghost use Rattle.text_lines.specs.Adding.{Adds};
 ghost use Rattle.text_lines.specs.Strict.{strict_line};
 ghost use Rattle.text_lines.specs.Parts.{joined};
 ghost use Rattle.header_text.specs.Spelling.{arrow_name};
@@ -14,7 +13,7 @@ use text_lines::push_numeral;
 
 /// Adds a space and the numeral of a number.
 pub(crate) fn push_number(out: &mut Vec<u8>, n: u64) -> Result<(), AllocError>
-    ensures { Adds (32 ∷ decimal n) out.old.items out.new.items result }
+    ensures { OnOk result (out.new.items ≡ out.old.items ++ 32 ∷ decimal n) }
 {
     out.push(b' ')?;
     push_numeral(out, n)?;
@@ -23,7 +22,7 @@ pub(crate) fn push_number(out: &mut Vec<u8>, n: u64) -> Result<(), AllocError>
 
 /// Adds a line of a word and a number, as `words 4`.
 pub fn push_count(out: &mut Vec<u8>, word: &[u8], n: u64) -> Result<(), AllocError>
-    ensures { Adds (strict_line (word.now ∷ decimal n ∷ [])) out.old.items out.new.items result }
+    ensures { OnOk result (out.new.items ≡ out.old.items ++ strict_line (word.now ∷ decimal n ∷ [])) }
 {
     out.extend_from_slice(word)?;
     push_number(out, n)?;
@@ -37,7 +36,7 @@ pub(crate) fn push_arrow_name(
     quiver: &Quiver,
     arrow: u8,
 ) -> Result<(), AllocError>
-    ensures { Adds (32 ∷ arrow_name quiver.now arrow) out.old.items out.new.items result }
+    ensures { OnOk result (out.new.items ≡ out.old.items ++ 32 ∷ arrow_name quiver.now arrow) }
 {
     out.push(b' ')?;
     out.extend_from_slice(arrow_text(quiver, arrow))?;
@@ -46,7 +45,7 @@ pub(crate) fn push_arrow_name(
 
 /// Adds the line of a word: a path of the quiver.
 pub fn push_word(out: &mut Vec<u8>, quiver: &Quiver, word: &Path) -> Result<(), AllocError>
-    ensures { Adds (strict_line (word_line quiver.now word.now)) out.old.items out.new.items result }
+    ensures { OnOk result (out.new.items ≡ out.old.items ++ strict_line (word_line quiver.now word.now)) }
 {
     out.extend_from_slice(b"word ")?;
     push_path(out, quiver, word)?;
@@ -55,7 +54,7 @@ pub fn push_word(out: &mut Vec<u8>, quiver: &Quiver, word: &Path) -> Result<(), 
 }
 
 fn push_relation_step(out: &mut Vec<u8>, r: u32) -> Result<(), AllocError>
-    ensures { Adds (joined 32 (codes "relation" ∷ decimal r ∷ [])) out.old.items out.new.items result }
+    ensures { OnOk result (out.new.items ≡ out.old.items ++ joined 32 (codes "relation" ∷ decimal r ∷ [])) }
 {
     out.extend_from_slice(b"relation")?;
     push_number(out, r as u64)?;
@@ -63,7 +62,7 @@ fn push_relation_step(out: &mut Vec<u8>, r: u32) -> Result<(), AllocError>
 }
 
 fn push_left_step(out: &mut Vec<u8>, quiver: &Quiver, a: u8, j: u32) -> Result<(), AllocError>
-    ensures { Adds (joined 32 (codes "left" ∷ arrow_name quiver.now a ∷ decimal j ∷ [])) out.old.items out.new.items result }
+    ensures { OnOk result (out.new.items ≡ out.old.items ++ joined 32 (codes "left" ∷ arrow_name quiver.now a ∷ decimal j ∷ [])) }
 {
     out.extend_from_slice(b"left")?;
     push_arrow_name(out, quiver, a)?;
@@ -72,7 +71,7 @@ fn push_left_step(out: &mut Vec<u8>, quiver: &Quiver, a: u8, j: u32) -> Result<(
 }
 
 fn push_right_step(out: &mut Vec<u8>, quiver: &Quiver, j: u32, a: u8) -> Result<(), AllocError>
-    ensures { Adds (joined 32 (codes "right" ∷ decimal j ∷ arrow_name quiver.now a ∷ [])) out.old.items out.new.items result }
+    ensures { OnOk result (out.new.items ≡ out.old.items ++ joined 32 (codes "right" ∷ decimal j ∷ arrow_name quiver.now a ∷ [])) }
 {
     out.extend_from_slice(b"right")?;
     push_number(out, j as u64)?;
@@ -81,7 +80,7 @@ fn push_right_step(out: &mut Vec<u8>, quiver: &Quiver, j: u32, a: u8) -> Result<
 }
 
 fn push_add_step(out: &mut Vec<u8>, j: u32, c: u8, m: u32) -> Result<(), AllocError>
-    ensures { Adds (joined 32 (codes "add" ∷ decimal j ∷ decimal c ∷ decimal m ∷ [])) out.old.items out.new.items result }
+    ensures { OnOk result (out.new.items ≡ out.old.items ++ joined 32 (codes "add" ∷ decimal j ∷ decimal c ∷ decimal m ∷ [])) }
 {
     out.extend_from_slice(b"add")?;
     push_number(out, j as u64)?;
@@ -92,7 +91,7 @@ fn push_add_step(out: &mut Vec<u8>, j: u32, c: u8, m: u32) -> Result<(), AllocEr
 
 /// Adds what a step is, without its number.
 fn push_step_form(out: &mut Vec<u8>, quiver: &Quiver, step: Step) -> Result<(), AllocError>
-    ensures { Adds (joined 32 (step_form quiver.now step)) out.old.items out.new.items result }
+    ensures { OnOk result (out.new.items ≡ out.old.items ++ joined 32 (step_form quiver.now step)) }
 {
     match step {
         Step::Relation(r) => push_relation_step(out, r),
@@ -104,7 +103,7 @@ fn push_step_form(out: &mut Vec<u8>, quiver: &Quiver, step: Step) -> Result<(), 
 
 /// Adds the line of the step with the number k, from 1 on.
 pub fn push_step(out: &mut Vec<u8>, quiver: &Quiver, k: u64, step: Step) -> Result<(), AllocError>
-    ensures { Adds (strict_line (step_line quiver.now k step)) out.old.items out.new.items result }
+    ensures { OnOk result (out.new.items ≡ out.old.items ++ strict_line (step_line quiver.now k step)) }
 {
     out.extend_from_slice(b"step")?;
     push_number(out, k)?;
@@ -115,7 +114,7 @@ pub fn push_step(out: &mut Vec<u8>, quiver: &Quiver, k: u64, step: Step) -> Resu
 }
 
 fn push_tail(out: &mut Vec<u8>, quiver: &Quiver, terms: &[Term]) -> Result<(), AllocError>
-    ensures { Adds (joined 32 (tail_form quiver.now terms.now)) out.old.items out.new.items result }
+    ensures { OnOk result (out.new.items ≡ out.old.items ++ joined 32 (tail_form quiver.now terms.now)) }
 {
     if terms.is_empty() {
         return Ok(out.push(b'0')?);
@@ -125,7 +124,7 @@ fn push_tail(out: &mut Vec<u8>, quiver: &Quiver, terms: &[Term]) -> Result<(), A
 
 /// Adds the line of a rule: its tip, its tail and the number of its step.
 pub fn push_rule(out: &mut Vec<u8>, quiver: &Quiver, rule: &Rule) -> Result<(), AllocError>
-    ensures { Adds (strict_line (rule_line quiver.now rule.now)) out.old.items out.new.items result }
+    ensures { OnOk result (out.new.items ≡ out.old.items ++ strict_line (rule_line quiver.now rule.now)) }
 {
     out.extend_from_slice(b"rule ")?;
     push_path(out, quiver, &rule.tip)?;

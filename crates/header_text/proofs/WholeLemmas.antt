@@ -1,6 +1,7 @@
 -- The spelling of a header that is allowed is read, line by line.
-use Rattle.std.proofs.Common.{◌≡◌, ◌≢◌, ℕ, ◌<◌, ◌≤◌, ◌^◌, true, List, [], ◌∷◌, ◌++◌, map, length, codes, decimal, refl, sym, ap, ◌∙◌, subst, arith, append_assoc, append-nil, lit<}
+use Rattle.std.proofs.Common.{◌≡◌, ◌≢◌, ℕ, ◌<◌, ◌≤◌, ◌^◌, true, false, List, [], ◌∷◌, ◌++◌, map, length, codes, decimal, refl, sym, ap, ◌∙◌, subst, arith, append_assoc, append-nil, lit<}
 use Rattle.std.specs.Prelude.{All, AllPairs, Contains}
+use Rattle.std.specs.List.{concat}
 use Rattle.std.proofs.lemmas.List.{map-append, length-append}
 use Rattle.std.proofs.lemmas.List.Elements.{All-nil, All-cons, All-head, All-tail, All-append, All-weaker, All-contains, All-map}
 use Rattle.linear_algebra.specs.Field.{Gf, order}
@@ -17,19 +18,19 @@ use Rattle.path_algebra.specs.Allowed.{IsAllowed, IsTerm, IsRelation, IsArrowNam
 use Rattle.text_lines.specs.Lines.{lines}
 use Rattle.text_lines.specs.Parts.{Lacks, spaced}
 use Rattle.text_lines.specs.Strict.{strict_line}
-use Rattle.text_lines.specs.Reading.{Reads}
-use Rattle.text_lines.proofs.Cutting.{lines-cut}
-use Rattle.text_lines.proofs.Readings.{Reads-append}
-use Rattle.text_lines.proofs.StrictLaws.{strict_tokens-strict_line}
+use Rattle.text_lines.specs.Reading.{Reads, ReadsWhole, IsFirstBad}
+use Rattle.text_lines.proofs.Cutting.{lines-cut, concat-lines}
+use Rattle.text_lines.proofs.Readings.{Reads-append, whole_not_bad}
+use Rattle.text_lines.proofs.StrictLaws.{strict_line-of_tokens, strict_tokens-strict_line}
 use Rattle.header_text.specs.declared.forms.Form.{Form}
 use Rattle.header_text.specs.declared.forms.Form.TheVariants.{Field, Vertex, Arrow as ArrowForm, Bound, Relation as RelationForm}
-use Rattle.header_text.specs.Spelling.{vertex_name, path_text, coefficient_text, term_text, terms_arguments, field_line, vertex_line, arrow_line, bound_line, relation_line, header_lines, text_of}
+use Rattle.header_text.specs.Spelling.{vertex_name, path_text, coefficient_text, term_text, terms_arguments, field_line, vertex_line, arrow_line, bound_line, relation_line, header_lines, text_of, header_text}
 use Rattle.header_text.specs.Named.{IsNamed}
-use Rattle.header_text.specs.Part.{Part, IsStart, FitsVertex, FitsArrow, FitsBound, FitsRelation, Fits, tokens_of, after, Step, IsFront}
+use Rattle.header_text.specs.Part.{Part, IsStart, FitsVertex, FitsArrow, FitsBound, FitsRelation, Fits, tokens_of, after, Step, IsFront, MayEnd, part_lines}
 use Rattle.header_text.proofs.Clean.{IsOutside, space_outside, feed_outside, name_lacks, decimal_lacks, vertex_name_lacks, path_lacks, coefficient_lacks, lacks_append, joined_lacks, plus_between_lacks, lacks_by_test}
 use Rattle.header_text.proofs.Readers.{order_small}
 use Rattle.header_text.proofs.FormLemmas.{the_step}
-use Rattle.header_text.proofs.FrontLemmas.{front_after, start_front, IsRelation-moved}
+use Rattle.header_text.proofs.FrontLemmas.{front_after, lines_after, allowed_at_end, lines_at_end, lines_at_start, start_front, IsRelation-moved}
 
 pub IsNamed-allowed : (h : Header) → IsAllowed h → IsNamed h.quiver
 IsNamed-allowed h is = record {

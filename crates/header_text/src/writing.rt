@@ -1,6 +1,5 @@
 //! Writing headers and paths.
 ghost use Rattle.std.specs.Prelude.{◌≡◌, ◌++◌, [], map, OnOk, ◌==◌, if◌then◌else◌};
-ghost use Rattle.text_lines.specs.Adding.{Adds};
 ghost use Rattle.text_lines.specs.Strict.{strict_line};
 ghost use Rattle.text_lines.specs.Parts.{joined};
 ghost use Rattle.header_text.specs.Spelling.{vertex_name, arrow_name, arrows_text, path_text, coefficient_text, term_text, terms_arguments, field_line, vertex_line, arrow_line, bound_line, relation_line, text_of, header_text};
@@ -33,7 +32,7 @@ pub fn arrow_text(quiver: &Quiver, arrow: u8) -> &[u8]
 
 /// Adds what stands between two pieces, before each but the first.
 fn push_between(out: &mut Vec<u8>, i: usize, between: &[u8]) -> Result<(), AllocError>
-    ensures { Adds (if i == 0 then [] else between.now) out.old.items out.new.items result }
+    ensures { OnOk result (out.new.items ≡ out.old.items ++ (if i == 0 then [] else between.now)) }
 {
     if i == 0 {
         return Ok(());
@@ -42,9 +41,8 @@ fn push_between(out: &mut Vec<u8>, i: usize, between: &[u8]) -> Result<(), Alloc
 }
 
 /// Adds the names of the arrows, joined by `.`.
-#[tactic(auto, using(text_lines::proofs::Prefixes::prefix_behind, text_lines::proofs::Prefixes::prefix_behind_same))]
 fn push_arrows(out: &mut Vec<u8>, quiver: &Quiver, arrows: &[u8]) -> Result<(), AllocError>
-    ensures { Adds (arrows_text quiver.now arrows.now) out.old.items out.new.items result }
+    ensures { OnOk result (out.new.items ≡ out.old.items ++ arrows_text quiver.now arrows.now) }
 {
     for (i, arrow) in arrows.iter().enumerate() {
         push_between(out, i, b".")?;
@@ -55,7 +53,7 @@ fn push_arrows(out: &mut Vec<u8>, quiver: &Quiver, arrows: &[u8]) -> Result<(), 
 
 /// Adds the spelling of a path: `@` and its vertex for a trivial path, else its arrows joined by `.`.
 pub fn push_path(out: &mut Vec<u8>, quiver: &Quiver, path: &Path) -> Result<(), AllocError>
-    ensures { Adds (path_text quiver.now path.now) out.old.items out.new.items result }
+    ensures { OnOk result (out.new.items ≡ out.old.items ++ path_text quiver.now path.now) }
 {
     if path.arrows.is_empty() {
         out.push(b'@')?;
@@ -68,7 +66,7 @@ pub fn push_path(out: &mut Vec<u8>, quiver: &Quiver, path: &Path) -> Result<(), 
 
 /// Adds a coefficient and `*`, but nothing for 1.
 fn push_coefficient(out: &mut Vec<u8>, coef: u8) -> Result<(), AllocError>
-    ensures { Adds (coefficient_text coef) out.old.items out.new.items result }
+    ensures { OnOk result (out.new.items ≡ out.old.items ++ coefficient_text coef) }
 {
     if coef != 1 {
         push_numeral(out, coef as u64)?;
@@ -79,7 +77,7 @@ fn push_coefficient(out: &mut Vec<u8>, coef: u8) -> Result<(), AllocError>
 
 /// Adds the spelling of a term.
 fn push_term(out: &mut Vec<u8>, quiver: &Quiver, term: &Term) -> Result<(), AllocError>
-    ensures { Adds (term_text quiver.now term.now) out.old.items out.new.items result }
+    ensures { OnOk result (out.new.items ≡ out.old.items ++ term_text quiver.now term.now) }
 {
     push_coefficient(out, term.coef)?;
     push_path(out, quiver, &term.path)?;
@@ -87,9 +85,8 @@ fn push_term(out: &mut Vec<u8>, quiver: &Quiver, term: &Term) -> Result<(), Allo
 }
 
 /// Adds the terms with ` + ` between each two.
-#[tactic(auto, using(text_lines::proofs::Prefixes::prefix_behind))]
 pub fn push_terms(out: &mut Vec<u8>, quiver: &Quiver, terms: &[Term]) -> Result<(), AllocError>
-    ensures { Adds (joined 32 (terms_arguments quiver.now terms.now)) out.old.items out.new.items result }
+    ensures { OnOk result (out.new.items ≡ out.old.items ++ joined 32 (terms_arguments quiver.now terms.now)) }
 {
     for (i, term) in terms.iter().enumerate() {
         push_between(out, i, b" + ")?;
@@ -99,7 +96,7 @@ pub fn push_terms(out: &mut Vec<u8>, quiver: &Quiver, terms: &[Term]) -> Result<
 }
 
 fn push_field(out: &mut Vec<u8>, field: Field) -> Result<(), AllocError>
-    ensures { Adds (strict_line (field_line field)) out.old.items out.new.items result }
+    ensures { OnOk result (out.new.items ≡ out.old.items ++ strict_line (field_line field)) }
 {
     out.extend_from_slice(b"field ")?;
     push_numeral(out, field.size() as u64)?;
@@ -108,7 +105,7 @@ fn push_field(out: &mut Vec<u8>, field: Field) -> Result<(), AllocError>
 }
 
 fn push_vertex(out: &mut Vec<u8>, name: &Name) -> Result<(), AllocError>
-    ensures { Adds (strict_line (vertex_line name.now)) out.old.items out.new.items result }
+    ensures { OnOk result (out.new.items ≡ out.old.items ++ strict_line (vertex_line name.now)) }
 {
     out.extend_from_slice(b"vertex ")?;
     out.extend_from_slice(name.text())?;
@@ -117,7 +114,7 @@ fn push_vertex(out: &mut Vec<u8>, name: &Name) -> Result<(), AllocError>
 }
 
 fn push_arrow(out: &mut Vec<u8>, quiver: &Quiver, arrow: &Arrow) -> Result<(), AllocError>
-    ensures { Adds (strict_line (arrow_line quiver.now arrow.now)) out.old.items out.new.items result }
+    ensures { OnOk result (out.new.items ≡ out.old.items ++ strict_line (arrow_line quiver.now arrow.now)) }
 {
     out.extend_from_slice(b"arrow ")?;
     out.extend_from_slice(arrow.name.text())?;
@@ -130,7 +127,7 @@ fn push_arrow(out: &mut Vec<u8>, quiver: &Quiver, arrow: &Arrow) -> Result<(), A
 }
 
 fn push_bound(out: &mut Vec<u8>, bound: u32) -> Result<(), AllocError>
-    ensures { Adds (strict_line (bound_line bound)) out.old.items out.new.items result }
+    ensures { OnOk result (out.new.items ≡ out.old.items ++ strict_line (bound_line bound)) }
 {
     out.extend_from_slice(b"bound ")?;
     push_numeral(out, bound as u64)?;
@@ -139,7 +136,7 @@ fn push_bound(out: &mut Vec<u8>, bound: u32) -> Result<(), AllocError>
 }
 
 fn push_relation(out: &mut Vec<u8>, quiver: &Quiver, relation: &Relation) -> Result<(), AllocError>
-    ensures { Adds (strict_line (relation_line quiver.now relation.now)) out.old.items out.new.items result }
+    ensures { OnOk result (out.new.items ≡ out.old.items ++ strict_line (relation_line quiver.now relation.now)) }
 {
     out.extend_from_slice(b"relation")?;
     if !relation.terms.is_empty() {
@@ -150,9 +147,8 @@ fn push_relation(out: &mut Vec<u8>, quiver: &Quiver, relation: &Relation) -> Res
     Ok(())
 }
 
-#[tactic(auto, using(text_lines::proofs::Prefixes::prefix_behind))]
 fn push_vertices(out: &mut Vec<u8>, names: &[Name]) -> Result<(), AllocError>
-    ensures { Adds (text_of (map vertex_line names.now)) out.old.items out.new.items result }
+    ensures { OnOk result (out.new.items ≡ out.old.items ++ text_of (map vertex_line names.now)) }
 {
     for name in names {
         push_vertex(out, name)?;
@@ -160,9 +156,8 @@ fn push_vertices(out: &mut Vec<u8>, names: &[Name]) -> Result<(), AllocError>
     Ok(())
 }
 
-#[tactic(auto, using(text_lines::proofs::Prefixes::prefix_behind))]
 fn push_all_arrows(out: &mut Vec<u8>, quiver: &Quiver) -> Result<(), AllocError>
-    ensures { Adds (text_of (map (arrow_line quiver.now) quiver.now.arrows)) out.old.items out.new.items result }
+    ensures { OnOk result (out.new.items ≡ out.old.items ++ text_of (map (arrow_line quiver.now) quiver.now.arrows)) }
 {
     for arrow in quiver.arrows.as_slice() {
         push_arrow(out, quiver, arrow)?;
@@ -170,13 +165,12 @@ fn push_all_arrows(out: &mut Vec<u8>, quiver: &Quiver) -> Result<(), AllocError>
     Ok(())
 }
 
-#[tactic(auto, using(text_lines::proofs::Prefixes::prefix_behind))]
 fn push_relations(
     out: &mut Vec<u8>,
     quiver: &Quiver,
     relations: &[Relation],
 ) -> Result<(), AllocError>
-    ensures { Adds (text_of (map (relation_line quiver.now) relations.now)) out.old.items out.new.items result }
+    ensures { OnOk result (out.new.items ≡ out.old.items ++ text_of (map (relation_line quiver.now) relations.now)) }
 {
     for relation in relations {
         push_relation(out, quiver, relation)?;
@@ -186,7 +180,7 @@ fn push_relations(
 
 /// Adds the lines of a header.
 pub fn push_header(out: &mut Vec<u8>, header: &Header) -> Result<(), AllocError>
-    ensures { Adds (header_text header.now) out.old.items out.new.items result }
+    ensures { OnOk result (out.new.items ≡ out.old.items ++ header_text header.now) }
 {
     push_field(out, header.field)?;
     push_vertices(out, header.quiver.vertices.as_slice())?;

@@ -3,8 +3,7 @@ use Rattle.std.proofs.Common.{◌≡◌, ℕ, ◌+◌, ◌<◌, List, [], ◌∷
 use Rattle.std.proofs.lemmas.List.{length-append, length-map, map-append}
 use Rattle.std.proofs.lemmas.List.Elements.{All-nil, All-cons, All-head, All-tail, All-append}
 use Rattle.deciding.proofs.Deciding.{Decided, like, both}
-use Rattle.text_lines.specs.Adding.{IsPrefix}
-use Rattle.object_lines.specs.Reading.{Takes, TakesFewer, BeginsOtherwise}
+use Rattle.object_lines.specs.Reading.{Takes, BeginsOtherwise}
 
 pub cons_head : {X : Type 0} (x y : X) (xs ys : List X) → x ∷ xs ≡ y ∷ ys → x ≡ y
 cons_head x y xs ys e = cc
@@ -34,18 +33,6 @@ no_list (x ∷ xs) e = absurd (omega (arith, e))
 module _ (spell : ℕ → List ℕ) (IsOne : ℕ → Type 0) where
   pub takes_none : (old : List ℕ) (tokens : List (List ℕ)) → Takes spell IsOne 0 old old tokens tokens
   takes_none old tokens = record { taken = []; counted = refl; all = All-nil IsOne; behind = sym (append-nil old); spelled = refl }
-
-  -- where the next token is no item and stays
-  pub takes_fewer : (count all' : ℕ) (old new : List ℕ) (tokens middle rest : List (List ℕ)) → Takes spell IsOne count old new tokens middle → count < all' → rest ≡ middle → TakesFewer spell IsOne all' old new tokens rest
-  takes_fewer count all' old new tokens middle rest t l e = record {
-    number = count;
-    fewer = l;
-    takes = record { taken = t.taken; counted = t.counted; all = t.all; behind = t.behind; spelled = t.spelled ∙ ap (λ r. map spell t.taken ++ r) (sym e) };
-  }
-
-  -- what was there stays in front
-  pub takes_front : (count : ℕ) (old new whole : List ℕ) (tokens rest : List (List ℕ)) → Takes spell IsOne count old new tokens rest → whole ≡ new → IsPrefix old whole
-  takes_front count old new whole tokens rest t e = record { rest = t.taken; split = e ∙ t.behind }
 
   -- one item more
   pub takes_more : (count : ℕ) (old mid new : List ℕ) (tokens rest less : List (List ℕ)) (x : ℕ) → Takes spell IsOne count old mid tokens rest → IsOne x → new ≡ mid ++ x ∷ [] → rest ≡ spell x ∷ less

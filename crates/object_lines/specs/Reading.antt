@@ -15,12 +15,6 @@ pub record Takes (spell : ℕ → List ℕ) (IsOne : ℕ → Type 0) (count : �
   pub behind : new ≡ old ++ taken
   pub spelled : tokens ≡ map spell taken ++ rest
 
--- fewer items were taken, each of the tokens in front of the rest
-pub record TakesFewer (spell : ℕ → List ℕ) (IsOne : ℕ → Type 0) (count : ℕ) (old new : List ℕ) (tokens rest : List (List ℕ)) : Type 0 where
-  pub number : ℕ
-  pub fewer : number < count
-  pub takes : Takes spell IsOne number old new tokens rest
-
 -- the tokens do not begin with so many such items
 abbrev pub BeginsOtherwise : (spell : ℕ → List ℕ) (IsOne : ℕ → Type 0) (count : ℕ) (tokens : List (List ℕ)) → Type 0
 BeginsOtherwise spell IsOne count tokens = (xs : List ℕ) (rest : List (List ℕ)) → length xs ≡ count → All IsOne xs → ¬ (tokens ≡ map spell xs ++ rest)

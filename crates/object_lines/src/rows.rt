@@ -1,7 +1,6 @@
 //! Reading rows.
 ghost use Rattle.std.specs.Prelude.{ℕ, ◌≡◌, ◌∷◌, List, IfOk, MatchBool};
 ghost use Rattle.linear_algebra.specs.Rows.{IsRow};
-ghost use Rattle.text_lines.specs.Adding.{IsPrefix};
 ghost use Rattle.header_text.specs.Reading.{Reads};
 ghost use Rattle.object_lines.specs.Spelling.{numbers_form, row_line, gen_line};
 ghost use Rattle.object_lines.specs.Reading.{AddsRow};
@@ -19,8 +18,7 @@ fn add_entries(
     width: u32,
     tokens: Parts<'_>,
 ) -> Result<bool, AllocError>
-    ensures added { IfOk result (λ b. MatchBool b (AddsRow field width numbers_form entries.old.items entries.new.items tokens.entry) ((row : List ℕ) → IsRow field width row → ¬ (tokens.entry ≡ numbers_form row))) }
-    ensures front { IsPrefix entries.old.items entries.new.items }
+    ensures { IfOk result (λ b. MatchBool b (AddsRow field width numbers_form entries.old.items entries.new.items tokens.entry) ((row : List ℕ) → IsRow field width row → ¬ (tokens.entry ≡ numbers_form row))) }
 {
     let mut tokens = tokens;
     let taken = take_entries(entries, field, width, &mut tokens)?;
@@ -41,8 +39,7 @@ fn add_row(
     width: u32,
     tokens: Parts<'_>,
 ) -> Result<bool, AllocError>
-    ensures added { IfOk result (λ b. MatchBool b (AddsRow field width (λ (row : List ℕ). word.now ∷ numbers_form row) entries.old.items entries.new.items tokens.entry) ((row : List ℕ) → IsRow field width row → ¬ (tokens.entry ≡ word.now ∷ numbers_form row))) }
-    ensures front { IsPrefix entries.old.items entries.new.items }
+    ensures { IfOk result (λ b. MatchBool b (AddsRow field width (λ (row : List ℕ). word.now ∷ numbers_form row) entries.old.items entries.new.items tokens.entry) ((row : List ℕ) → IsRow field width row → ¬ (tokens.entry ≡ word.now ∷ numbers_form row))) }
 {
     let mut tokens = tokens;
     if !tokens.take_word(word) {
@@ -71,15 +68,14 @@ fn row_of(
 }
 
 /// Reads the tokens of the line of a row of a matrix, and adds its entries, exactly `width`, behind those of the rows before it. `Ok(false)`: they are
-/// not those of such a row. `Err`: memory is wanting. What was there stays in front, but some entries may then stand behind it.
+/// not those of such a row; some entries may then have been added. `Err`: memory is wanting.
 pub fn add_row_line(
     entries: &mut Vec<u8>,
     field: Field,
     width: u32,
     tokens: Parts<'_>,
 ) -> Result<bool, AllocError>
-    ensures added { IfOk result (λ b. MatchBool b (AddsRow field width row_line entries.old.items entries.new.items tokens.entry) ((row : List ℕ) → IsRow field width row → ¬ (tokens.entry ≡ row_line row))) }
-    ensures front { IsPrefix entries.old.items entries.new.items }
+    ensures { IfOk result (λ b. MatchBool b (AddsRow field width row_line entries.old.items entries.new.items tokens.entry) ((row : List ℕ) → IsRow field width row → ¬ (tokens.entry ≡ row_line row))) }
 {
     let added = add_row(entries, b"row", field, width, tokens)?;
     Ok(added)

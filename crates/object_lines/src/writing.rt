@@ -1,6 +1,5 @@
 //! Writing lines. Each writer adds behind what is there; where memory is wanting, `Err`, and a front of the line may stand there.
 ghost use Rattle.std.specs.Prelude.{◌≡◌, ◌≤◌, ◌++◌, ◌∷◌, [], ◌==◌, OnOk, decimal, codes, length, map, if◌then◌else◌};
-ghost use Rattle.text_lines.specs.Adding.{Adds};
 ghost use Rattle.text_lines.specs.Strict.{strict_line};
 ghost use Rattle.header_text.specs.Spelling.{vertex_name, arrow_name, text_of};
 ghost use Rattle.object_lines.specs.Spelling.{numbers_form, side_word, module_line, map_line, matrix_form, at_line, at_lines, has_entry, row_line, gen_line, phi_line, term_line, ideal_line, power_line, residue_word, residue_line, left_line, middle_line};
@@ -16,7 +15,7 @@ use text_lines::push_numeral;
 
 /// Adds a space and a token.
 fn push_token(out: &mut Vec<u8>, token: &[u8]) -> Result<(), AllocError>
-    ensures { Adds (32 ∷ token.now) out.old.items out.new.items result }
+    ensures { OnOk result (out.new.items ≡ out.old.items ++ 32 ∷ token.now) }
 {
     out.push(b' ')?;
     out.extend_from_slice(token)?;
@@ -25,7 +24,7 @@ fn push_token(out: &mut Vec<u8>, token: &[u8]) -> Result<(), AllocError>
 
 /// Adds a space and the numeral of a number.
 fn push_number(out: &mut Vec<u8>, n: u64) -> Result<(), AllocError>
-    ensures { Adds (32 ∷ decimal n) out.old.items out.new.items result }
+    ensures { OnOk result (out.new.items ≡ out.old.items ++ 32 ∷ decimal n) }
 {
     out.push(b' ')?;
     push_numeral(out, n)?;
@@ -33,9 +32,8 @@ fn push_number(out: &mut Vec<u8>, n: u64) -> Result<(), AllocError>
 }
 
 /// Adds numbers, each behind a space.
-#[tactic(auto, using(text_lines::proofs::Prefixes::prefix_behind))]
 fn push_numbers(out: &mut Vec<u8>, numbers: &[u32]) -> Result<(), AllocError>
-    ensures { Adds (behind_spaces (numbers_form numbers.now)) out.old.items out.new.items result }
+    ensures { OnOk result (out.new.items ≡ out.old.items ++ behind_spaces (numbers_form numbers.now)) }
 {
     for n in numbers {
         push_number(out, *n as u64)?;
@@ -44,9 +42,8 @@ fn push_numbers(out: &mut Vec<u8>, numbers: &[u32]) -> Result<(), AllocError>
 }
 
 /// Adds entries, each behind a space.
-#[tactic(auto, using(text_lines::proofs::Prefixes::prefix_behind))]
 fn push_entries(out: &mut Vec<u8>, entries: &[u8]) -> Result<(), AllocError>
-    ensures { Adds (behind_spaces (numbers_form entries.now)) out.old.items out.new.items result }
+    ensures { OnOk result (out.new.items ≡ out.old.items ++ behind_spaces (numbers_form entries.now)) }
 {
     for entry in entries {
         push_number(out, *entry as u64)?;
@@ -55,9 +52,8 @@ fn push_entries(out: &mut Vec<u8>, entries: &[u8]) -> Result<(), AllocError>
 }
 
 /// Adds the names of vertices, each behind a space.
-#[tactic(auto, using(text_lines::proofs::Prefixes::prefix_behind))]
 fn push_vertices(out: &mut Vec<u8>, quiver: &Quiver, vertices: &[u8]) -> Result<(), AllocError>
-    ensures { Adds (behind_spaces (map (vertex_name quiver.now) vertices.now)) out.old.items out.new.items result }
+    ensures { OnOk result (out.new.items ≡ out.old.items ++ behind_spaces (map (vertex_name quiver.now) vertices.now)) }
 {
     for vertex in vertices {
         push_token(out, vertex_text(quiver, *vertex))?;
@@ -67,7 +63,7 @@ fn push_vertices(out: &mut Vec<u8>, quiver: &Quiver, vertices: &[u8]) -> Result<
 
 /// Adds a line of a word and a number.
 fn push_word_and_number(out: &mut Vec<u8>, word: &[u8], n: u64) -> Result<(), AllocError>
-    ensures { Adds (strict_line (word.now ∷ decimal n ∷ [])) out.old.items out.new.items result }
+    ensures { OnOk result (out.new.items ≡ out.old.items ++ strict_line (word.now ∷ decimal n ∷ [])) }
 {
     out.extend_from_slice(word)?;
     push_number(out, n)?;
@@ -77,7 +73,7 @@ fn push_word_and_number(out: &mut Vec<u8>, word: &[u8], n: u64) -> Result<(), Al
 
 /// Adds a line of a word and entries.
 fn push_word_and_entries(out: &mut Vec<u8>, word: &[u8], entries: &[u8]) -> Result<(), AllocError>
-    ensures { Adds (strict_line (word.now ∷ numbers_form entries.now)) out.old.items out.new.items result }
+    ensures { OnOk result (out.new.items ≡ out.old.items ++ strict_line (word.now ∷ numbers_form entries.now)) }
 {
     out.extend_from_slice(word)?;
     push_entries(out, entries)?;
@@ -102,7 +98,7 @@ pub fn push_module_line(
     side: Side,
     dims: &[u32],
 ) -> Result<(), AllocError>
-    ensures { Adds (strict_line (module_line k side dims.now)) out.old.items out.new.items result }
+    ensures { OnOk result (out.new.items ≡ out.old.items ++ strict_line (module_line k side dims.now)) }
 {
     out.extend_from_slice(b"module")?;
     push_number(out, k as u64)?;
@@ -114,7 +110,7 @@ pub fn push_module_line(
 
 /// Adds the first line of map k, from one module to another, both by their numbers.
 pub fn push_map_line(out: &mut Vec<u8>, k: u32, source: u32, target: u32) -> Result<(), AllocError>
-    ensures { Adds (strict_line (map_line k source target)) out.old.items out.new.items result }
+    ensures { OnOk result (out.new.items ≡ out.old.items ++ strict_line (map_line k source target)) }
 {
     out.extend_from_slice(b"map")?;
     push_number(out, k as u64)?;
@@ -126,7 +122,7 @@ pub fn push_map_line(out: &mut Vec<u8>, k: u32, source: u32, target: u32) -> Res
 
 /// Adds what stands between two rows, before each but the first.
 fn push_slash(out: &mut Vec<u8>, i: u32) -> Result<(), AllocError>
-    ensures { Adds (behind_spaces (if i == 0 then [] else (codes "/" ∷ []))) out.old.items out.new.items result }
+    ensures { OnOk result (out.new.items ≡ out.old.items ++ behind_spaces (if i == 0 then [] else (codes "/" ∷ []))) }
 {
     if i != 0 {
         out.extend_from_slice(b" /")?;
@@ -135,9 +131,8 @@ fn push_slash(out: &mut Vec<u8>, i: u32) -> Result<(), AllocError>
 }
 
 /// Adds the rows of a matrix.
-#[tactic(auto, using(text_lines::proofs::Prefixes::prefix_behind))]
 fn push_matrix(out: &mut Vec<u8>, m: &Matrix) -> Result<(), AllocError>
-    ensures { Adds (behind_spaces (matrix_form m.now.rows)) out.old.items out.new.items result }
+    ensures { OnOk result (out.new.items ≡ out.old.items ++ behind_spaces (matrix_form m.now.rows)) }
 {
     for i in 0..m.rows() {
         push_slash(out, i)?;
@@ -147,7 +142,7 @@ fn push_matrix(out: &mut Vec<u8>, m: &Matrix) -> Result<(), AllocError>
 }
 
 fn push_at_line(out: &mut Vec<u8>, name: &[u8], m: &Matrix) -> Result<(), AllocError>
-    ensures { Adds (strict_line (at_line name.now m.now)) out.old.items out.new.items result }
+    ensures { OnOk result (out.new.items ≡ out.old.items ++ strict_line (at_line name.now m.now)) }
 {
     out.extend_from_slice(b"at")?;
     push_token(out, name)?;
@@ -158,7 +153,7 @@ fn push_at_line(out: &mut Vec<u8>, name: &[u8], m: &Matrix) -> Result<(), AllocE
 
 /// Adds the line of the matrix at this name, if it has an entry.
 fn push_at_some(out: &mut Vec<u8>, name: &[u8], m: &Matrix) -> Result<(), AllocError>
-    ensures { Adds (text_of (if has_entry m.now then at_line name.now m.now ∷ [] else [])) out.old.items out.new.items result }
+    ensures { OnOk result (out.new.items ≡ out.old.items ++ text_of (if has_entry m.now then at_line name.now m.now ∷ [] else [])) }
 {
     if m.rows() > 0 && m.cols() > 0 {
         push_at_line(out, name, m)?;
@@ -167,14 +162,13 @@ fn push_at_some(out: &mut Vec<u8>, name: &[u8], m: &Matrix) -> Result<(), AllocE
 }
 
 /// Adds the lines of the matrices at the vertices, those without an entry left out.
-#[tactic(auto, using(text_lines::proofs::Prefixes::prefix_behind))]
 pub fn push_at_vertices(
     out: &mut Vec<u8>,
     quiver: &Quiver,
     matrices: &[Matrix],
 ) -> Result<(), AllocError>
     requires { length matrices.now ≤ 256 }
-    ensures { Adds (text_of (at_lines (vertex_name quiver.now) 0 matrices.now)) out.old.items out.new.items result }
+    ensures { OnOk result (out.new.items ≡ out.old.items ++ text_of (at_lines (vertex_name quiver.now) 0 matrices.now)) }
 {
     for (v, m) in matrices.iter().enumerate() {
         push_at_some(out, vertex_text(quiver, v as u8), m)?;
@@ -183,14 +177,13 @@ pub fn push_at_vertices(
 }
 
 /// Adds the lines of the matrices at the arrows, those without an entry left out.
-#[tactic(auto, using(text_lines::proofs::Prefixes::prefix_behind))]
 pub fn push_at_arrows(
     out: &mut Vec<u8>,
     quiver: &Quiver,
     matrices: &[Matrix],
 ) -> Result<(), AllocError>
     requires { length matrices.now ≤ 256 }
-    ensures { Adds (text_of (at_lines (arrow_name quiver.now) 0 matrices.now)) out.old.items out.new.items result }
+    ensures { OnOk result (out.new.items ≡ out.old.items ++ text_of (at_lines (arrow_name quiver.now) 0 matrices.now)) }
 {
     for (a, m) in matrices.iter().enumerate() {
         push_at_some(out, arrow_text(quiver, a as u8), m)?;
@@ -200,15 +193,14 @@ pub fn push_at_arrows(
 
 /// Adds the line of a row of a matrix.
 pub fn push_row_line(out: &mut Vec<u8>, entries: &[u8]) -> Result<(), AllocError>
-    ensures { Adds (strict_line (row_line entries.now)) out.old.items out.new.items result }
+    ensures { OnOk result (out.new.items ≡ out.old.items ++ strict_line (row_line entries.now)) }
 {
     push_word_and_entries(out, b"row", entries)
 }
 
 /// Adds the lines of the rows of a matrix.
-#[tactic(auto, using(text_lines::proofs::Prefixes::prefix_behind))]
 pub fn push_row_lines(out: &mut Vec<u8>, m: &Matrix) -> Result<(), AllocError>
-    ensures { Adds (text_of (map row_line m.now.rows)) out.old.items out.new.items result }
+    ensures { OnOk result (out.new.items ≡ out.old.items ++ text_of (map row_line m.now.rows)) }
 {
     for i in 0..m.rows() {
         push_row_line(out, m.row(i))?;
@@ -218,14 +210,14 @@ pub fn push_row_lines(out: &mut Vec<u8>, m: &Matrix) -> Result<(), AllocError>
 
 /// Adds the line of the row that a generator goes to.
 pub fn push_gen_line(out: &mut Vec<u8>, entries: &[u8]) -> Result<(), AllocError>
-    ensures { Adds (strict_line (gen_line entries.now)) out.old.items out.new.items result }
+    ensures { OnOk result (out.new.items ≡ out.old.items ++ strict_line (gen_line entries.now)) }
 {
     push_word_and_entries(out, b"gen", entries)
 }
 
 /// Adds the line of a functional.
 pub fn push_phi_line(out: &mut Vec<u8>, entries: &[u8]) -> Result<(), AllocError>
-    ensures { Adds (strict_line (phi_line entries.now)) out.old.items out.new.items result }
+    ensures { OnOk result (out.new.items ≡ out.old.items ++ strict_line (phi_line entries.now)) }
 {
     push_word_and_entries(out, b"phi", entries)
 }
@@ -237,7 +229,7 @@ pub fn push_term_line(
     k: u32,
     vertices: &[u8],
 ) -> Result<(), AllocError>
-    ensures { Adds (strict_line (term_line quiver.now k vertices.now)) out.old.items out.new.items result }
+    ensures { OnOk result (out.new.items ≡ out.old.items ++ strict_line (term_line quiver.now k vertices.now)) }
 {
     out.extend_from_slice(b"term")?;
     push_number(out, k as u64)?;
@@ -249,21 +241,21 @@ pub fn push_term_line(
 
 /// Adds the line that says of how many rows an ideal is.
 pub fn push_ideal_line(out: &mut Vec<u8>, n: u32) -> Result<(), AllocError>
-    ensures { Adds (strict_line (ideal_line n)) out.old.items out.new.items result }
+    ensures { OnOk result (out.new.items ≡ out.old.items ++ strict_line (ideal_line n)) }
 {
     push_word_and_number(out, b"ideal", n as u64)
 }
 
 /// Adds the line that says which power of an ideal is zero.
 pub fn push_power_line(out: &mut Vec<u8>, n: u32) -> Result<(), AllocError>
-    ensures { Adds (strict_line (power_line n)) out.old.items out.new.items result }
+    ensures { OnOk result (out.new.items ≡ out.old.items ++ strict_line (power_line n)) }
 {
     push_word_and_number(out, b"power", n as u64)
 }
 
 /// Adds the line of the form of a residue ring.
 pub fn push_residue_line(out: &mut Vec<u8>, residue: Residue) -> Result<(), AllocError>
-    ensures { Adds (strict_line (residue_line residue)) out.old.items out.new.items result }
+    ensures { OnOk result (out.new.items ≡ out.old.items ++ strict_line (residue_line residue)) }
 {
     match residue {
         Residue::Frobenius => out.extend_from_slice(b"residue frobenius\n")?,
@@ -274,7 +266,7 @@ pub fn push_residue_line(out: &mut Vec<u8>, residue: Residue) -> Result<(), Allo
 
 /// Adds the line before the matrices of the left end of a sequence.
 pub fn push_left_line(out: &mut Vec<u8>) -> Result<(), AllocError>
-    ensures { Adds (strict_line left_line) out.old.items out.new.items result }
+    ensures { OnOk result (out.new.items ≡ out.old.items ++ strict_line left_line) }
 {
     out.extend_from_slice(b"left\n")?;
     Ok(())
@@ -282,7 +274,7 @@ pub fn push_left_line(out: &mut Vec<u8>) -> Result<(), AllocError>
 
 /// Adds the line before the matrices of the middle of a sequence.
 pub fn push_middle_line(out: &mut Vec<u8>) -> Result<(), AllocError>
-    ensures { Adds (strict_line middle_line) out.old.items out.new.items result }
+    ensures { OnOk result (out.new.items ≡ out.old.items ++ strict_line middle_line) }
 {
     out.extend_from_slice(b"middle\n")?;
     Ok(())

@@ -5,4 +5,3 @@ pub mod FormLaws
 pub mod StrictLaws
 mod WordLaws
 pub mod ShortNumbers
-pub mod Prefixes

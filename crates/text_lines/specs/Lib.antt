@@ -6,4 +6,3 @@ pub mod Numerals
 pub mod Reading
 pub mod Forms
 pub mod Refusals
-pub mod Adding

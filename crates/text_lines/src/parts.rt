@@ -1,5 +1,5 @@
 // Bytes cut at one byte.
-ghost use Rattle.std.specs.Prelude.{◌≡◌, ◌≢◌, ℕ, List, [], ◌∷◌, ◌++◌, ◌≤◌, All, decimal, IfSome, IfNone, MatchOption, MatchBool, IsTrue, IsFalse, ◌↔◌};
+ghost use Rattle.std.specs.Prelude.{◌≡◌, ◌≢◌, ℕ, List, [], ◌∷◌, ◌++◌, ◌≤◌, All, decimal, IfSome, IfNone, MatchOption, MatchBool, IsTrue, ◌↔◌};
 ghost use Rattle.text_lines.specs.Parts.{parts, joined, Lacks};
 
 use super::numerals::read_numeral;
@@ -66,45 +66,24 @@ impl<'a> Parts<'a> {
         }
     }
 
-    // Those that are left, once more.
-    fn copied(&self) -> Parts<'a>
-        ensures { result ≡ self.now }
-    {
-        Parts {
-            rest: self.rest,
-            at: self.at,
-            is_done: self.is_done,
-        }
-    }
-
-    /// Takes the next part if it is this word, and says whether it was. Where it was not, all that were left are left.
+    /// Takes the next part, and says whether it was this word. The part is gone either way.
     pub fn take_word(&mut self, word: &[u8]) -> bool
-        ensures taken { MatchBool result (self.old ≡ word.now ∷ self.new) ((rest : List (List ℕ)) → ¬ (self.old ≡ word.now ∷ rest)) }
-        ensures kept { IsFalse result → self.new ≡ self.old }
+        ensures { MatchBool result (self.old ≡ word.now ∷ self.new) ((rest : List (List ℕ)) → ¬ (self.old ≡ word.now ∷ rest)) }
     {
-        let before = self.copied();
-        if let Some(part) = self.next_part() && part == word {
-            return true;
+        match self.next_part() {
+            Some(part) => part == word,
+            None => false,
         }
-        *self = before;
-        false
     }
 
-    /// Takes the next part if it is the numeral of a number up to `most`, and answers the number. None where it was not,
-    /// and then all that were left are left.
+    /// Takes the next part, and answers the number if it was the numeral of one up to `most`. The part is gone either way.
     pub fn take_numeral(&mut self, most: u64) -> Option<u64>
         ensures within { IfSome result (λ n. n ≤ most) }
         ensures taken { IfSome result (λ n. self.old ≡ decimal n ∷ self.new) }
         ensures none { IfNone result ((n : ℕ) (rest : List (List ℕ)) → n ≤ most → ¬ (self.old ≡ decimal n ∷ rest)) }
-        ensures kept { IfNone result (self.new ≡ self.old) }
     {
-        let before = self.copied();
         let part = self.next_part()?;
-        let Some(n) = read_numeral(part, most) else {
-            *self = before;
-            return None;
-        };
-        Some(n)
+        read_numeral(part, most)
     }
 
     /// Whether no part is left.

@@ -5,7 +5,7 @@ use Rattle.std.proofs.lemmas.List.{length-replicate, get_or-replicate}
 use Rattle.linear_algebra.specs.Field.{Gf, add}
 use Rattle.linear_algebra.specs.FieldLaws.{zero_add, one_mul}
 use Rattle.linear_algebra.specs.Rows.{list_of}
-use Rattle.linear_algebra.proofs.Rows.{list_of-is, length-list_of}
+use Rattle.linear_algebra.proofs.Rows.{list_of-is}
 use Rattle.word_products.specs.declared.sparse.Entry.{Entry}
 use Rattle.word_products.specs.SparseRows.{entry_at, with_multiple}
 use Rattle.word_products.specs.SparseRows.{dense_row}
@@ -30,7 +30,3 @@ pub dense_entries : (q q' : Gf) (n : ℕ) (x : List ℕ) (entries : List Entry) 
 unfolding dense_row
 dense_entries q q' n x entries e w a = ap (λ p. list_of n (entry_at p entries)) e
     ∙ sym (list_of-is n (entry_at q entries) x 0 (sym w) (λ j l. sym (a.within j (subst (λ m. j < m) w l))))
-
-pub length-dense_row : (q : Gf) (n : ℕ) (entries : List Entry) → length (dense_row q n entries) ≡ n
-unfolding dense_row
-length-dense_row q n entries = length-list_of n (entry_at q entries)

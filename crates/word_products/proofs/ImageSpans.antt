@@ -10,9 +10,9 @@ use Rattle.linear_algebra.specs.Field.{Gf, order, add, mul}
 use Rattle.linear_algebra.specs.FieldLaws.{order-pos, add_below, add_zero_zero, mul_zero, zero_mul}
 use Rattle.linear_algebra.specs.Sums.{sum_to, sum-same, sum-zeros}
 use Rattle.linear_algebra.specs.Rows.{IsRow, list_of, zeros, times, product, IsInSpan, SameSpan}
-use Rattle.linear_algebra.proofs.Rows.{length-list_of, list_of-is, entry-list_of, get_or-times, length-times, times-times, row-product, length-product, row-entry, IsInSpan-through, IsInSpan-add_multiple, SameSpan-refl}
+use Rattle.linear_algebra.proofs.Rows.{length-list_of, list_of-is, entry-list_of, get_or-times, length-times, times-times, row-product, length-product, row-entry, IsInSpan-through}
 use Rattle.linear_algebra.proofs.Reduced.{IsInSpan-zeros}
-use Rattle.linear_algebra.proofs.SpanPush.{SplitsOff, SplitsOff-from_span, IsInSpan-from_split, sum_with}
+use Rattle.linear_algebra.proofs.SpanPush.{SplitsOff, SplitsOff-from_span, IsInSpan-from_split}
 use Rattle.quiver_paths.specs.declared.Path.{Path}
 use Rattle.quiver_paths.specs.Quiver.{vertex_count, arrow_count, source, target}
 use Rattle.quiver_paths.specs.Path.{IsPath, Leads, path_length, concat, trivial_path, arrow_path}
@@ -23,8 +23,9 @@ use Rattle.word_products.specs.declared.sparse.Entry.{Entry}
 use Rattle.path_algebra.specs.Elements.{path_element}
 use Rattle.path_algebra.specs.Rows.{path_at, row_of, RowsView}
 use Rattle.path_algebra.specs.Reduction.{IsReduction, act_arrow, act_arrows}
-use Rattle.word_products.specs.SparseRows.{entry_at, acted_by}
-use Rattle.word_products.specs.Vanishing.{ActionView, IsAction, ActsBy, FitsSpan, LongVanish, IsVanishingRow, RowsVanish, AreImages, SpansImages, SpansTrivial, HasImages, IsRowOf, image_of, AreZero}
+use Rattle.word_products.specs.SparseRows.{SparseView, entry_at, acted_by}
+use Rattle.word_products.specs.WordProducts.{CanAct}
+use Rattle.word_products.specs.Vanishing.{AreAllProducts, LongVanish, IsVanishingRow, RowsVanish, AreImages, SpansImages, SpansTrivial, HasImages, AreZero}
 use Rattle.path_algebra.proofs.SumsOver.{sum_over-zeros}
 use Rattle.path_algebra.proofs.ElementLemmas.{path_element-below, path_element-other}
 use Rattle.path_algebra.proofs.Columns.{get_or-row_of, IsRow-row_of}
@@ -33,7 +34,7 @@ use Rattle.path_algebra.proofs.Acting.{act_arrows-linear, act_arrows-append, not
 use Rattle.path_algebra.proofs.Collecting.{no_rows, row_of-sum, sum_with-none, IsRow-span, pushed_in_span}
 use Rattle.path_algebra.proofs.Reducing.{AreRules, by_reduction, sum_between-zeros, rewritten_smaller}
 use Rattle.path_algebra.proofs.Independent.{trivial_word, along_word, arrows_of_words, word_is_of_words, leads_arrows}
-use Rattle.word_products.proofs.SparseActs.{acted_to-at, length-acted_to, IsRow-acted_by}
+use Rattle.word_products.proofs.SparseActs.{acted_to-at, length-acted_to}
 use Rattle.word_products.proofs.WordRows.{word_at, word_listed, short_word, are_rules, acted_on, index_once}
 use Rattle.word_products.proofs.ActingRows.{act_all, get_or-row_of_past}
 
@@ -84,23 +85,25 @@ module _ (h : Header) (words : List Path) (becomes : Path → Path → ℕ) (k :
 
 -- ---- the trivial words
 
-module _ (act : ActionView) (is : IsAction act) where
-  word_small : (i : ℕ) → (r : Path) → path_element act.header.bound (path_at act.words i) r < order act.header.field
-  word_small i r = path_element-below act.header.field act.header.bound (path_at act.words i) r
+module _ (h : Header) (words : List Path) (rules : List Rule) (can : CanAct h words rules) where
+  word_small : (i : ℕ) → (r : Path) → path_element h.bound (path_at words i) r < order h.field
+  word_small i r = path_element-below h.field h.bound (path_at words i) r
 
-  pub trivial-none : (span : RowsView) → span.field ≡ act.header.field → span.columns ≡ length act.words → span.rows ≡ [] → SpansTrivial act 0 span
+  pub trivial-none : (span : RowsView) → span.field ≡ h.field → span.columns ≡ length words → span.rows ≡ [] → SpansTrivial h words rules 0 span
   trivial-none span f c r = record {
-    fits = record { field_is = f; columns_are = c };
-    rows = λ becomes red. record { has = λ j l. absurd (omega (arith, l)); vanish = λ v. subst (RowsVanish act.header act.words becomes 0) (sym r) (vanish-none act.header act.words becomes 0) };
+    field_is = f;
+    columns_are = c;
+    rows = λ becomes red. record { has = λ j l. absurd (omega (arith, l)); vanish = λ v. subst (RowsVanish h words becomes 0) (sym r) (vanish-none h words becomes 0) };
   }
 
-  pub trivial-skip : (span : RowsView) (i : ℕ) → 0 < path_length (path_at act.words i) → SpansTrivial act i span → SpansTrivial act (i + 1) span
+  pub trivial-skip : (span : RowsView) (i : ℕ) → 0 < path_length (path_at words i) → SpansTrivial h words rules i span → SpansTrivial h words rules (i + 1) span
   trivial-skip span i n s = record {
-    fits = s.fits;
+    field_is = s.field_is;
+    columns_are = s.columns_are;
     rows = λ becomes red. let old = s.rows becomes red in record {
       has = λ j l t. elim (cases_lt j i) [
         | inl b ↦ old.has j b t
-        | inr b ↦ absurd (omega (arith, n, t, ap (λ x. path_length (path_at act.words x)) (same j l b)))
+        | inr b ↦ absurd (omega (arith, n, t, ap (λ x. path_length (path_at words x)) (same j l b)))
       ];
       vanish = old.vanish;
     };
@@ -109,47 +112,49 @@ module _ (act : ActionView) (is : IsAction act) where
       same : (j : ℕ) → j < i + 1 → i ≤ j → j ≡ i
       same j l b = omega (arith, l, b)
 
-  pub trivial-push : (span new : RowsView) (i : ℕ) → i < length act.words → SpansTrivial act i span → new.field ≡ span.field → new.columns ≡ span.columns
-      → SameSpan act.header.field (length act.words) (span.rows ++ row_of act.words (path_element act.header.bound (path_at act.words i)) ∷ []) new.rows → SpansTrivial act (i + 1) new
+  pub trivial-push : (span new : RowsView) (i : ℕ) → i < length words → SpansTrivial h words rules i span → new.field ≡ span.field → new.columns ≡ span.columns
+      → SameSpan h.field (length words) (span.rows ++ row_of words (path_element h.bound (path_at words i)) ∷ []) new.rows → SpansTrivial h words rules (i + 1) new
   trivial-push span new i li s f c ss = record {
-    fits = record { field_is = f ∙ s.fits.field_is; columns_are = c ∙ s.fits.columns_are };
+    field_is = f ∙ s.field_is;
+    columns_are = c ∙ s.columns_are;
     rows = λ becomes red. let old = s.rows becomes red in record {
       has = λ j l t. elim (cases_lt j i) [
-        | inl b ↦ in_span_kept act.header.field (length act.words) span.rows new.rows _ _ ss (old.has j b t)
-        | inr b ↦ subst (λ x. IsInSpan act.header.field (length act.words) new.rows (row_of act.words (path_element act.header.bound (path_at act.words x)))) (same j l b)
-            (pushed_in_span act.header act.words span.rows new.rows (row_of act.words (path_element act.header.bound (path_at act.words i))) (IsRow-row_of act.header.field act.words (path_element act.header.bound (path_at act.words i)) (word_small i)) ss)
+        | inl b ↦ in_span_kept h.field (length words) span.rows new.rows _ _ ss (old.has j b t)
+        | inr b ↦ subst (λ x. IsInSpan h.field (length words) new.rows (row_of words (path_element h.bound (path_at words x)))) (same j l b)
+            (pushed_in_span h words span.rows new.rows (row_of words (path_element h.bound (path_at words i))) (IsRow-row_of h.field words (path_element h.bound (path_at words i)) (word_small i)) ss)
       ];
-      vanish = λ lv. vanish-same act.header act.words becomes 0 _ new.rows ss (vanish-push act.header act.words becomes 0 span.rows (path_element act.header.bound (path_at act.words i)) (word_small i)
-          (λ r d. path_element-other act.header.bound (path_at act.words i) r (λ e. d (subst (Contains act.words) e (word_listed act.words i li)))) (word_vanishes becomes lv) (old.vanish lv));
+      vanish = λ lv. vanish-same h words becomes 0 _ new.rows ss (vanish-push h words becomes 0 span.rows (path_element h.bound (path_at words i)) (word_small i)
+          (λ r d. path_element-other h.bound (path_at words i) r (λ e. d (subst (Contains words) e (word_listed words i li)))) (word_vanishes becomes lv) (old.vanish lv));
     };
   }
     where
       same : (j : ℕ) → j < i + 1 → i ≤ j → i ≡ j
       same j l b = omega (arith, l, b)
 
-      word_vanishes : (becomes : Path → Path → ℕ) → LongVanish act.header act.words becomes → (ys : List ℕ) (u w : ℕ) → Leads act.header.quiver u ys w → 0 + length ys ≡ act.header.bound → (r : Path)
-          → act_arrows act.header becomes act.words ys (path_element act.header.bound (path_at act.words i)) r ≡ 0
-      word_vanishes becomes lv ys u w l e r = elim (cases_eq u (path_at act.words i).end) [
+      word_vanishes : (becomes : Path → Path → ℕ) → LongVanish h words becomes → (ys : List ℕ) (u w : ℕ) → Leads h.quiver u ys w → 0 + length ys ≡ h.bound → (r : Path)
+          → act_arrows h becomes words ys (path_element h.bound (path_at words i)) r ≡ 0
+      word_vanishes becomes lv ys u w l e r = elim (cases_eq u (path_at words i).end) [
         | inl m ↦ lv.long (record { start = u; end = w; arrows = ys })
-            (record { starts = subst (λ x. x < vertex_count act.header.quiver) (sym m) (IsPath-end act.header.quiver (path_at act.words i) is.can.allowed.quiver.ends (short_word act.header act.words is.rules is.can i li).path); leads = l })
-            (omega (arith, e)) (path_at act.words i) (word_listed act.words i li) r
-        | inr d ↦ starts_apart act.header becomes act.words ys (path_at act.words i) u w (omega (arith, e, is.can.allowed.bound_from)) l d r
+            (record { starts = subst (λ x. x < vertex_count h.quiver) (sym m) (IsPath-end h.quiver (path_at words i) can.allowed.quiver.ends (short_word h words rules can i li).path); leads = l })
+            (omega (arith, e)) (path_at words i) (word_listed words i li) r
+        | inr d ↦ starts_apart h becomes words ys (path_at words i) u w (omega (arith, e, can.allowed.bound_from)) l d r
       ]
 
   -- all of them
-  pub trivial-all : (span : RowsView) → SpansTrivial act (length act.words) span → SpansImages act 0 span
+  pub trivial-all : (span : RowsView) → SpansTrivial h words rules (length words) span → SpansImages h words rules 0 span
   unfolding act_arrows
   trivial-all span s = record {
-    fits = s.fits;
+    field_is = s.field_is;
+    columns_are = s.columns_are;
     images = λ becomes red. record { has = λ v w xs. has becomes red v w xs; vanish = (s.rows becomes red).vanish };
   }
     where
-      has : (becomes : Path → Path → ℕ) → ActsBy act becomes → (v w : ℕ) (xs : List ℕ) → v < vertex_count act.header.quiver → Leads act.header.quiver v xs w → length xs ≡ 0
-          → IsInSpan act.header.field (length act.words) span.rows (row_of act.words (act_arrows act.header becomes act.words xs (path_element act.header.bound (trivial_path v))))
+      has : (becomes : Path → Path → ℕ) → IsReduction h rules becomes → (v w : ℕ) (xs : List ℕ) → v < vertex_count h.quiver → Leads h.quiver v xs w → length xs ≡ 0
+          → IsInSpan h.field (length words) span.rows (row_of words (act_arrows h becomes words xs (path_element h.bound (trivial_path v))))
       has becomes red v w [] l k e =
-          let m = trivial_word act.header act.words red.action.rules becomes (acted_on act.header act.words red.action.rules red.action.can becomes red.reduction) v (IsPath-trivial act.header.quiver v l) in
-          let at : path_at act.words m.0 ≡ trivial_path v = word_at act.words m.0 (trivial_path v) m.1 m.2 in
-          subst (λ x. IsInSpan act.header.field (length act.words) span.rows (row_of act.words (path_element act.header.bound x))) at ((s.rows becomes red).has m.0 m.1 (ap path_length at))
+          let m = trivial_word h words rules becomes (acted_on h words rules can becomes red) v (IsPath-trivial h.quiver v l) in
+          let at : path_at words m.0 ≡ trivial_path v = word_at words m.0 (trivial_path v) m.1 m.2 in
+          subst (λ x. IsInSpan h.field (length words) span.rows (row_of words (path_element h.bound x))) at ((s.rows becomes red).has m.0 m.1 (ap path_length at))
       has becomes red v w (x ∷ xs) l k e = absurd (omega (arith, e))
 
 -- ---- the images of combinations
@@ -206,17 +211,6 @@ zero_in : (q : Gf) (n : ℕ) (rows : List (List ℕ)) (x : List ℕ) → length 
 unfolding zeros
 zero_in q n rows x l z = subst (IsInSpan q n rows) (sym (list_of-is n (λ _. 0) x 0 l (λ j k. z j))) (IsInSpan-zeros q n rows)
 
-without_zero : (q : Gf) (n : ℕ) (rows : List (List ℕ)) (x y : List ℕ) → IsInSpan q n rows x → SplitsOff q n rows x y → IsInSpan q n rows y
-unfolding sum_with
-without_zero q n rows x y z s = subst (IsInSpan q n rows) s.whole (IsInSpan-add_multiple q n rows s.factor s.rest x s.in_span z)
-
--- a zero row more changes no span
-pub zero_pushed : (q : Gf) (n : ℕ) (rows : List (List ℕ)) (x : List ℕ) → IsRow q n x → ((j : ℕ) → get_or x j 0 ≡ 0) → SameSpan q n (rows ++ x ∷ []) rows
-zero_pushed q n rows x r z = record {
-  forth = λ y s. without_zero q n rows x y (zero_in q n rows x r.count z) (SplitsOff-from_span q n rows x y s);
-  back = λ y s. in_span_kept q n rows (rows ++ x ∷ []) x y (SameSpan-refl q n (rows ++ x ∷ [])) s;
-}
-
 -- combinations of zero rows are zero
 pub zero_combinations : (q : Gf) (n : ℕ) (rows : List (List ℕ)) → ((i j : ℕ) → i < length rows → get_or (get_or rows i []) j 0 ≡ 0) → AreZero q n rows
 zero_combinations q n rows z = record {
@@ -226,153 +220,163 @@ zero_combinations q n rows z = record {
   ];
 }
 
-module _ (act : ActionView) where
+module _ (h : Header) (words : List Path) (rules : List Rule) (can : CanAct h words rules) where
   -- an arrow behind another that it does not meet
-  arrows_apart : (becomes : Path → Path → ℕ) → ActsBy act becomes → (a b : ℕ) → a < arrow_count act.header.quiver → (source act.header.quiver b ≡ target act.header.quiver a → ⊥) → (f : Path → ℕ) (r : Path)
-      → act_arrow act.header becomes act.words b (act_arrow act.header becomes act.words a f) r ≡ 0
+  arrows_apart : (becomes : Path → Path → ℕ) → IsReduction h rules becomes → (a b : ℕ) → a < arrow_count h.quiver → (source h.quiver b ≡ target h.quiver a → ⊥) → (f : Path → ℕ) (r : Path)
+      → act_arrow h becomes words b (act_arrow h becomes words a f) r ≡ 0
   unfolding act_arrow
-  arrows_apart becomes red a b la d f r = sum_over-zeros act.header.field act.words _ (λ w m. elim (cases_eq w.end (source act.header.quiver b)) [
+  arrows_apart becomes red a b la d f r = sum_over-zeros h.field words _ (λ w m. elim (cases_eq w.end (source h.quiver b)) [
     | inr n ↦ cond-false _ _ 0 (ne_eqb _ _ n)
-    | inl e ↦ cond-true _ _ 0 (eq-eqb _ _ e) ∙ ap (λ c. mul act.header.field c (becomes (concat w (arrow_path act.header.quiver b)) r)) (sum_over-zeros act.header.field act.words _ (λ v k. elim (cases_eq v.end (source act.header.quiver a)) [
+    | inl e ↦ cond-true _ _ 0 (eq-eqb _ _ e) ∙ ap (λ c. mul h.field c (becomes (concat w (arrow_path h.quiver b)) r)) (sum_over-zeros h.field words _ (λ v k. elim (cases_eq v.end (source h.quiver a)) [
       | inr n ↦ cond-false _ _ 0 (ne_eqb _ _ n)
-      | inl i ↦ cond-true _ _ 0 (eq-eqb _ _ i) ∙ ap (mul act.header.field (f v)) (becomes-ends act.header red.action.rules (are_rules act.header act.words red.action.rules red.action.can) becomes red.reduction (concat v (arrow_path act.header.quiver a))
-          (IsPath-concat act.header.quiver v (arrow_path act.header.quiver a) (red.action.can.word.only v k).0.path (IsPath-arrow act.header.quiver a red.action.can.allowed.quiver.ends la) i) w (λ z. d (sym e ∙ z))) ∙ mul_zero act.header.field (f v)
-    ])) ∙ zero_mul act.header.field _
+      | inl i ↦ cond-true _ _ 0 (eq-eqb _ _ i) ∙ ap (mul h.field (f v)) (becomes-ends h rules (are_rules h words rules can) becomes red (concat v (arrow_path h.quiver a))
+          (IsPath-concat h.quiver v (arrow_path h.quiver a) (can.word.only v k).0.path (IsPath-arrow h.quiver a can.allowed.quiver.ends la) i) w (λ z. d (sym e ∙ z))) ∙ mul_zero h.field (f v)
+    ])) ∙ zero_mul h.field _
   ])
 
   -- what vanishes behind k arrows has images that vanish behind one more
-  image_vanishes : (becomes : Path → Path → ℕ) → ActsBy act becomes → (k a : ℕ) → a < arrow_count act.header.quiver → (x : List ℕ) → (f : IsVanishingRow act.header act.words becomes k x)
-      → (ys : List ℕ) (u w : ℕ) → Leads act.header.quiver u ys w → (k + 1) + length ys ≡ act.header.bound → (r : Path) → act_arrows act.header becomes act.words ys (act_arrow act.header becomes act.words a f.element) r ≡ 0
+  image_vanishes : (becomes : Path → Path → ℕ) → IsReduction h rules becomes → (k a : ℕ) → a < arrow_count h.quiver → (x : List ℕ) → (f : IsVanishingRow h words becomes k x)
+      → (ys : List ℕ) (u w : ℕ) → Leads h.quiver u ys w → (k + 1) + length ys ≡ h.bound → (r : Path) → act_arrows h becomes words ys (act_arrow h becomes words a f.element) r ≡ 0
   unfolding act_arrows
-  image_vanishes becomes red k a la x f [] u w l e r = f.vanishes (a ∷ []) (source act.header.quiver a) (target act.header.quiver a) (la, refl, refl) (omega (arith, e)) r
-  image_vanishes becomes red k a la x f (b ∷ ys) u w l e r = elim (cases_eq (source act.header.quiver b) (target act.header.quiver a)) [
-    | inl m ↦ f.vanishes (a ∷ b ∷ ys) (source act.header.quiver a) w (la, refl, (l.0, m, l.2)) (omega (arith, e)) r
-    | inr d ↦ ap (λ y. act_arrows act.header becomes act.words ys y r) (fun_ext (arrows_apart becomes red a b la d f.element)) ∙ nothing_acts act.header becomes act.words ys r
+  image_vanishes becomes red k a la x f [] u w l e r = f.vanishes (a ∷ []) (source h.quiver a) (target h.quiver a) (la, refl, refl) (omega (arith, e)) r
+  image_vanishes becomes red k a la x f (b ∷ ys) u w l e r = elim (cases_eq (source h.quiver b) (target h.quiver a)) [
+    | inl m ↦ f.vanishes (a ∷ b ∷ ys) (source h.quiver a) w (la, refl, (l.0, m, l.2)) (omega (arith, e)) r
+    | inr d ↦ ap (λ y. act_arrows h becomes words ys y r) (fun_ext (arrows_apart becomes red a b la d f.element)) ∙ nothing_acts h becomes words ys r
   ]
 
-  pub images-none : (old : List (List ℕ)) (m : ℕ) (span : RowsView) → m ≡ 0 → FitsSpan act span → span.rows ≡ [] → HasImages act old m span
-  images-none old m span z f r = record {
-    fits = f;
+  pub images-none : (products : SparseView) (k : ℕ) (old : List (List ℕ)) (m : ℕ) (span : RowsView) → m ≡ 0 → span.field ≡ h.field → span.columns ≡ length words → span.rows ≡ []
+      → HasImages h words rules products k old m span
+  images-none products k old m span z f c r = record {
+    field_is = f;
+    columns_are = c;
     has = λ i a li la l. absurd (omega (arith, l, z));
-    vanish = λ becomes red k v. subst (RowsVanish act.header act.words becomes (k + 1)) (sym r) (vanish-none act.header act.words becomes (k + 1));
+    vanish = λ becomes red v. subst (RowsVanish h words becomes (k + 1)) (sym r) (vanish-none h words becomes (k + 1));
   }
 
-  -- one image more
-  module _ (old : List (List ℕ)) (i a : ℕ) (x : List ℕ) (at : IsRowOf act old i x) (la : a < arrow_count act.header.quiver) (xr : IsRow act.header.field (length act.words) x)
-      (span : RowsView) (had : HasImages act old (i * arrow_count act.header.quiver + a) span) where
-    abbrev image : List ℕ
-    image = image_of act a x
-
-    image_row : IsRow act.header.field (length act.words) image
-    image_row = IsRow-acted_by act.header.field act.products.rows (arrow_count act.header.quiver) a (length act.words) x xr
-
-    last : (new : List (List ℕ)) → IsInSpan act.header.field (length act.words) new image → (j b : ℕ) → b < arrow_count act.header.quiver → j * arrow_count act.header.quiver + b ≡ i * arrow_count act.header.quiver + a
-        → (length (get_or old j []) ≡ length act.words) × IsInSpan act.header.field (length act.words) new (acted_by act.header.field act.products.rows (arrow_count act.header.quiver) b (get_or old j []))
+  module _ (products : SparseView) (all : AreAllProducts h words rules products) (k : ℕ) (old : List (List ℕ)) (i a : ℕ) (li : i < length old) (la : a < arrow_count h.quiver)
+      (x : List ℕ) (xi : x ≡ get_or old i []) (xr : IsRow h.field (length words) x) (xs : IsInSpan h.field (length words) old x)
+      (span : RowsView) (had : HasImages h words rules products k old (i * arrow_count h.quiver + a) span)
+      (image : List ℕ) (is : image ≡ acted_by h.field products.rows (arrow_count h.quiver) a x) where
+    last : (new : List (List ℕ)) → IsInSpan h.field (length words) new image → (j b : ℕ) → b < arrow_count h.quiver → j * arrow_count h.quiver + b ≡ i * arrow_count h.quiver + a
+        → (length (get_or old j []) ≡ length words) × IsInSpan h.field (length words) new (acted_by h.field products.rows (arrow_count h.quiver) b (get_or old j []))
     last new s j b lb e =
-        let parts = index_once (arrow_count act.header.quiver) j i b a lb la e in
-        let row : get_or old j [] ≡ x = ap (λ y. get_or old y []) parts.0 ∙ sym at.value in
-        (ap length row ∙ xr.count, subst (IsInSpan act.header.field (length act.words) new) (ap₂ (λ y z. acted_by act.header.field act.products.rows (arrow_count act.header.quiver) y z) (sym parts.1) (sym row)) s)
+        let parts = index_once (arrow_count h.quiver) j i b a lb la e in
+        let row : get_or old j [] ≡ x = ap (λ y. get_or old y []) parts.0 ∙ sym xi in
+        (ap length row ∙ xr.count, subst (IsInSpan h.field (length words) new) (is ∙ ap₂ (λ y z. acted_by h.field products.rows (arrow_count h.quiver) y z) (sym parts.1) (sym row)) s)
 
-    pub images-push : (new : RowsView) → FitsSpan act new → SameSpan act.header.field (length act.words) (span.rows ++ image_of act a x ∷ []) new.rows
-        → HasImages act old (i * arrow_count act.header.quiver + a + 1) new
-    images-push new f ss = record {
-      fits = f;
-      has = λ j b lj lb l. elim (cases_lt (j * arrow_count act.header.quiver + b) (i * arrow_count act.header.quiver + a)) [
-        | inl s ↦ let o = had.has j b lj lb s in (o.0, in_span_kept act.header.field (length act.words) span.rows new.rows image _ ss o.1)
-        | inr s ↦ last new.rows (pushed_in_span act.header act.words span.rows new.rows image image_row ss) j b lb (omega (arith, l, s))
+    pub images-push : (new : RowsView) → new.field ≡ span.field → new.columns ≡ span.columns → SameSpan h.field (length words) (span.rows ++ image ∷ []) new.rows
+        → IsRow h.field (length words) image → HasImages h words rules products k old (i * arrow_count h.quiver + a + 1) new
+    images-push new f c ss ir = record {
+      field_is = f ∙ had.field_is;
+      columns_are = c ∙ had.columns_are;
+      has = λ j b lj lb l. elim (cases_lt (j * arrow_count h.quiver + b) (i * arrow_count h.quiver + a)) [
+        | inl s ↦ let o = had.has j b lj lb s in (o.0, in_span_kept h.field (length words) span.rows new.rows image _ ss o.1)
+        | inr s ↦ last new.rows (pushed_in_span h words span.rows new.rows image ir ss) j b lb (omega (arith, l, s))
       ];
-      vanish = λ becomes red k v.
-          let g = v.elements x at.in_span in
-          let row : image ≡ row_of act.words (act_arrow act.header becomes act.words a g.element) =
-          ap (acted_by act.header.field act.products.rows (arrow_count act.header.quiver) a) (sym g.row) ∙ act_all act.header act.words red.action.rules red.action.can becomes red.reduction act.products.rows
-          (red.action.all.known.products becomes red.reduction) red.action.all.count a la g.element in
-          let made = arrows_of_words act.header act.words red.action.rules becomes (acted_on act.header act.words red.action.rules red.action.can becomes red.reduction) (a ∷ []) (one_arrow a la) g.element (record { small = g.small; outside = g.outside }) in
-          vanish-same act.header act.words becomes (k + 1) (span.rows ++ image ∷ []) new.rows ss
-          (subst (λ y. RowsVanish act.header act.words becomes (k + 1) (span.rows ++ y ∷ [])) (sym row)
-          (vanish-push act.header act.words becomes (k + 1) span.rows (act_arrow act.header becomes act.words a g.element) (small_of becomes a g.element made) (outside_of becomes a g.element made)
-          (image_vanishes becomes red k a la x g) (had.vanish becomes red k v)));
+      vanish = λ becomes red v.
+          let g = v.elements x xs in
+          let row : image ≡ row_of words (act_arrow h becomes words a g.element) =
+          is ∙ ap (acted_by h.field products.rows (arrow_count h.quiver) a) (sym g.row) ∙ act_all h words rules can becomes red products.rows (all.known.products becomes red) all.count a la g.element in
+          let made = arrows_of_words h words rules becomes (acted_on h words rules can becomes red) (a ∷ []) (one_arrow a la) g.element (record { small = g.small; outside = g.outside }) in
+          vanish-same h words becomes (k + 1) (span.rows ++ image ∷ []) new.rows ss
+          (subst (λ y. RowsVanish h words becomes (k + 1) (span.rows ++ y ∷ [])) (sym row)
+          (vanish-push h words becomes (k + 1) span.rows (act_arrow h becomes words a g.element) (small_of becomes a g.element made) (outside_of becomes a g.element made)
+          (image_vanishes becomes red k a la x g) (had.vanish becomes red v)));
     }
       where
-        one_arrow : (a : ℕ) → a < arrow_count act.header.quiver → All (λ b. b < arrow_count act.header.quiver) (a ∷ [])
-        one_arrow a l = All-cons (λ b. b < arrow_count act.header.quiver) a [] l (All-nil (λ b. b < arrow_count act.header.quiver))
+        one_arrow : (a : ℕ) → a < arrow_count h.quiver → All (λ b. b < arrow_count h.quiver) (a ∷ [])
+        one_arrow a l = All-cons (λ b. b < arrow_count h.quiver) a [] l (All-nil (λ b. b < arrow_count h.quiver))
 
-        small_of : (becomes : Path → Path → ℕ) (a : ℕ) (f : Path → ℕ) → IsCombination act.header act.words (act_arrows act.header becomes act.words (a ∷ []) f) → (r : Path) → act_arrow act.header becomes act.words a f r < order act.header.field
-        small_of becomes a f c r = one_small act.header act.words becomes a f c r
+        small_of : (becomes : Path → Path → ℕ) (a : ℕ) (f : Path → ℕ) → IsCombination h words (act_arrows h becomes words (a ∷ []) f) → (r : Path) → act_arrow h becomes words a f r < order h.field
+        small_of becomes a f c r = one_small h words becomes a f c r
 
-        outside_of : (becomes : Path → Path → ℕ) (a : ℕ) (f : Path → ℕ) → IsCombination act.header act.words (act_arrows act.header becomes act.words (a ∷ []) f) → (r : Path) → (Contains act.words r → ⊥) → act_arrow act.header becomes act.words a f r ≡ 0
-        outside_of becomes a f c r d = one_outside act.header act.words becomes a f c r d
+        outside_of : (becomes : Path → Path → ℕ) (a : ℕ) (f : Path → ℕ) → IsCombination h words (act_arrows h becomes words (a ∷ []) f) → (r : Path) → (Contains words r → ⊥) → act_arrow h becomes words a f r ≡ 0
+        outside_of becomes a f c r d = one_outside h words becomes a f c r d
+
+    pub images-skip : ((j : ℕ) → get_or image j 0 ≡ 0) → HasImages h words rules products k old (i * arrow_count h.quiver + a + 1) span
+    images-skip z = record {
+      field_is = had.field_is;
+      columns_are = had.columns_are;
+      has = λ j b lj lb l. elim (cases_lt (j * arrow_count h.quiver + b) (i * arrow_count h.quiver + a)) [
+        | inl s ↦ had.has j b lj lb s
+        | inr s ↦ last span.rows (zero_in h.field (length words) span.rows image (ap length is ∙ length-acted_to h.field products.rows (arrow_count h.quiver) a x (length x) ∙ xr.count) z) j b lb (omega (arith, l, s))
+      ];
+      vanish = had.vanish;
+    }
 
   -- all images
-  pub images-all : (k : ℕ) (old span new : RowsView) (m : ℕ) → m ≡ length old.rows * arrow_count act.header.quiver → SpansImages act k old → HasImages act old.rows m span → FitsSpan act new
-      → SameSpan act.header.field (length act.words) span.rows new.rows → SpansImages act (k + 1) new
-  images-all k old span new m e s g f ss = record {
-    fits = f;
+  pub images-all : (products : SparseView) → AreAllProducts h words rules products → (k : ℕ) (old span new : RowsView) (m : ℕ) → m ≡ length old.rows * arrow_count h.quiver
+      → SpansImages h words rules k old → HasImages h words rules products k old.rows m span → new.field ≡ span.field → new.columns ≡ span.columns
+      → SameSpan h.field (length words) span.rows new.rows → SpansImages h words rules (k + 1) new
+  images-all products all k old span new m e s g f c ss = record {
+    field_is = f ∙ g.field_is;
+    columns_are = c ∙ g.columns_are;
     images = λ becomes red. let o = s.images becomes red in record {
       has = λ v w xs lv l n. ss.forth _ (has becomes red o v w xs lv l n);
-      vanish = λ lv. vanish-same act.header act.words becomes (k + 1) span.rows new.rows ss (g.vanish becomes red k (o.vanish lv));
+      vanish = λ lv. vanish-same h words becomes (k + 1) span.rows new.rows ss (g.vanish becomes red (o.vanish lv));
     };
   }
     where
-      index : (i a : ℕ) → i < length old.rows → a < arrow_count act.header.quiver → i * arrow_count act.header.quiver + a < m
-      index i a li la = omega (arith, e, mul-add-lt i (arrow_count act.header.quiver) a (length old.rows) li la)
+      index : (i a : ℕ) → i < length old.rows → a < arrow_count h.quiver → i * arrow_count h.quiver + a < m
+      index i a li la = omega (arith, e, mul-add-lt i (arrow_count h.quiver) a (length old.rows) li la)
 
-      has : (becomes : Path → Path → ℕ) → ActsBy act becomes → AreImages act.header act.words becomes k old.rows → (v w : ℕ) (xs : List ℕ) → v < vertex_count act.header.quiver → Leads act.header.quiver v xs w
-          → length xs ≡ k + 1 → IsInSpan act.header.field (length act.words) span.rows (row_of act.words (act_arrows act.header becomes act.words xs (path_element act.header.bound (trivial_path v))))
+      has : (becomes : Path → Path → ℕ) → IsReduction h rules becomes → AreImages h words becomes k old.rows → (v w : ℕ) (xs : List ℕ) → v < vertex_count h.quiver → Leads h.quiver v xs w
+          → length xs ≡ k + 1 → IsInSpan h.field (length words) span.rows (row_of words (act_arrows h becomes words xs (path_element h.bound (trivial_path v))))
       has becomes red o v w xs lv l n =
           let front : List ℕ = take k xs in
           let a : ℕ = get_or xs k 0 in
           let split : xs ≡ front ++ a ∷ [] = sym (take_all (k + 1) xs (omega (arith, n))) ∙ take_more xs k 0 (omega (arith, n)) in
-          let between = Leads-between act.header.quiver v front (a ∷ []) w (subst (λ y. Leads act.header.quiver v y w) split l) in
-          let la : a < arrow_count act.header.quiver = between.2.0 in
+          let between = Leads-between h.quiver v front (a ∷ []) w (subst (λ y. Leads h.quiver v y w) split l) in
+          let la : a < arrow_count h.quiver = between.2.0 in
           let old_in = o.has v between.0 front lv between.1 (length-take-le k xs (omega (arith, n))) in
-          let image : acted_by act.header.field act.products.rows (arrow_count act.header.quiver) a (row_of act.words (act_arrows act.header becomes act.words front (path_element act.header.bound (trivial_path v))))
-          ≡ row_of act.words (act_arrows act.header becomes act.words xs (path_element act.header.bound (trivial_path v))) =
-          act_all act.header act.words red.action.rules red.action.can becomes red.reduction act.products.rows (red.action.all.known.products becomes red.reduction) red.action.all.count a la (act_arrows act.header becomes act.words front (path_element act.header.bound (trivial_path v)))
-          ∙ ap (row_of act.words) (one_more act.header act.words becomes front a (path_element act.header.bound (trivial_path v)) ∙ ap (λ y. act_arrows act.header becomes act.words y (path_element act.header.bound (trivial_path v))) (sym split)) in
-          subst (IsInSpan act.header.field (length act.words) span.rows) image (images_in act.header.field (length act.words) act.products.rows (arrow_count act.header.quiver) a old.rows span.rows
+          let image : acted_by h.field products.rows (arrow_count h.quiver) a (row_of words (act_arrows h becomes words front (path_element h.bound (trivial_path v))))
+          ≡ row_of words (act_arrows h becomes words xs (path_element h.bound (trivial_path v))) =
+          act_all h words rules can becomes red products.rows (all.known.products becomes red) all.count a la (act_arrows h becomes words front (path_element h.bound (trivial_path v)))
+          ∙ ap (row_of words) (one_more h words becomes front a (path_element h.bound (trivial_path v)) ∙ ap (λ y. act_arrows h becomes words y (path_element h.bound (trivial_path v))) (sym split)) in
+          subst (IsInSpan h.field (length words) span.rows) image (images_in h.field (length words) products.rows (arrow_count h.quiver) a old.rows span.rows
           (λ i li. (g.has i a li la (index i a li la)).0) (λ i li. (g.has i a li la (index i a li la)).1) _ old_in)
 
   -- ---- the images of the bound's length
 
-  pub long-from_zero : (becomes : Path → Path → ℕ) → ActsBy act becomes → (rows : List (List ℕ)) → AreImages act.header act.words becomes act.header.bound rows → AreZero act.header.field (length act.words) rows → LongVanish act.header act.words becomes
+  pub long-from_zero : (becomes : Path → Path → ℕ) → IsReduction h rules becomes → (rows : List (List ℕ)) → AreImages h words becomes h.bound rows → AreZero h.field (length words) rows → LongVanish h words becomes
   long-from_zero becomes red rows o z = record {
     long = λ p hp e w m r. elim (cases_eq p.start w.end) [
-      | inr d ↦ starts_apart act.header becomes act.words p.arrows w p.start p.end (omega (arith, e, red.action.can.allowed.bound_from)) hp.leads d r
+      | inr d ↦ starts_apart h becomes words p.arrows w p.start p.end (omega (arith, e, can.allowed.bound_from)) hp.leads d r
       | inl s ↦
-          let hw = (red.action.can.word.only w m).0.path in
-          let k = acted_on act.header act.words red.action.rules red.action.can becomes red.reduction in
+          let hw = (can.word.only w m).0.path in
+          let k = acted_on h words rules can becomes red in
           let zs : List ℕ = w.arrows ++ p.arrows in
-          let leads : Leads act.header.quiver w.start zs p.end = Leads-append act.header.quiver w.start w.arrows w.end p.arrows p.end hw.leads (subst (λ x. Leads act.header.quiver x p.arrows p.end) s hp.leads) in
-          let whole : take act.header.bound zs ++ drop act.header.bound zs ≡ zs = take-append-drop act.header.bound zs in
-          let between = Leads-between act.header.quiver w.start (take act.header.bound zs) (drop act.header.bound zs) p.end (subst (λ y. Leads act.header.quiver w.start y p.end) (sym whole) leads) in
-          let e0 : Path → ℕ = path_element act.header.bound (trivial_path w.start) in
-          let front : act_arrows act.header becomes act.words (take act.header.bound zs) e0 ≡ (λ q. 0) =
-          fun_ext (image_zero becomes red rows o z w.start between.0 (take act.header.bound zs) hw.starts between.1 (length-take-le act.header.bound zs (omega (arith, e, length-append w.arrows p.arrows)))) in
-          ap (λ x. act_arrows act.header becomes act.words p.arrows x r) (sym (along_word act.header act.words red.action.rules becomes k w.arrows (trivial_path w.start) w (IsPath-trivial act.header.quiver w.start hw.starts) m refl refl))
-          ∙ ap (λ x. x r) (sym (act_arrows-append act.header becomes act.words w.arrows p.arrows e0) ∙ ap (λ y. act_arrows act.header becomes act.words y e0) (sym whole) ∙ act_arrows-append act.header becomes act.words (take act.header.bound zs) (drop act.header.bound zs) e0)
-          ∙ ap (λ x. act_arrows act.header becomes act.words (drop act.header.bound zs) x r) front ∙ nothing_acts act.header becomes act.words (drop act.header.bound zs) r
+          let leads : Leads h.quiver w.start zs p.end = Leads-append h.quiver w.start w.arrows w.end p.arrows p.end hw.leads (subst (λ x. Leads h.quiver x p.arrows p.end) s hp.leads) in
+          let whole : take h.bound zs ++ drop h.bound zs ≡ zs = take-append-drop h.bound zs in
+          let between = Leads-between h.quiver w.start (take h.bound zs) (drop h.bound zs) p.end (subst (λ y. Leads h.quiver w.start y p.end) (sym whole) leads) in
+          let e0 : Path → ℕ = path_element h.bound (trivial_path w.start) in
+          let front : act_arrows h becomes words (take h.bound zs) e0 ≡ (λ q. 0) =
+          fun_ext (image_zero becomes red rows o z w.start between.0 (take h.bound zs) hw.starts between.1 (length-take-le h.bound zs (omega (arith, e, length-append w.arrows p.arrows)))) in
+          ap (λ x. act_arrows h becomes words p.arrows x r) (sym (along_word h words rules becomes k w.arrows (trivial_path w.start) w (IsPath-trivial h.quiver w.start hw.starts) m refl refl))
+          ∙ ap (λ x. x r) (sym (act_arrows-append h becomes words w.arrows p.arrows e0) ∙ ap (λ y. act_arrows h becomes words y e0) (sym whole) ∙ act_arrows-append h becomes words (take h.bound zs) (drop h.bound zs) e0)
+          ∙ ap (λ x. act_arrows h becomes words (drop h.bound zs) x r) front ∙ nothing_acts h becomes words (drop h.bound zs) r
     ];
   }
     where
-      image_zero : (becomes : Path → Path → ℕ) → ActsBy act becomes → (rows : List (List ℕ)) → AreImages act.header act.words becomes act.header.bound rows → AreZero act.header.field (length act.words) rows
-          → (v w : ℕ) (xs : List ℕ) → v < vertex_count act.header.quiver → Leads act.header.quiver v xs w → length xs ≡ act.header.bound → (r : Path) → act_arrows act.header becomes act.words xs (path_element act.header.bound (trivial_path v)) r ≡ 0
+      image_zero : (becomes : Path → Path → ℕ) → IsReduction h rules becomes → (rows : List (List ℕ)) → AreImages h words becomes h.bound rows → AreZero h.field (length words) rows
+          → (v w : ℕ) (xs : List ℕ) → v < vertex_count h.quiver → Leads h.quiver v xs w → length xs ≡ h.bound → (r : Path) → act_arrows h becomes words xs (path_element h.bound (trivial_path v)) r ≡ 0
       image_zero becomes red rows o z v w xs lv l n r =
-          let k = acted_on act.header act.words red.action.rules red.action.can becomes red.reduction in
-          let made = arrows_of_words act.header act.words red.action.rules becomes k xs (leads_arrows act.header.quiver v xs w l) (path_element act.header.bound (trivial_path v))
-          (word_is_of_words act.header act.words red.action.rules becomes k (trivial_path v) (trivial_word act.header act.words red.action.rules becomes k v (IsPath-trivial act.header.quiver v lv))) in
-          elim (cases_listed act.words r) [
+          let k = acted_on h words rules can becomes red in
+          let made = arrows_of_words h words rules becomes k xs (leads_arrows h.quiver v xs w l) (path_element h.bound (trivial_path v))
+          (word_is_of_words h words rules becomes k (trivial_path v) (trivial_word h words rules becomes k v (IsPath-trivial h.quiver v lv))) in
+          elim (cases_listed words r) [
             | inr d ↦ made.outside r d
-            | inl c ↦ subst (λ y. act_arrows act.header becomes act.words xs (path_element act.header.bound (trivial_path v)) y ≡ 0) (word_at act.words c.0 r c.1 c.2)
-                (sym (get_or-row_of act.words (act_arrows act.header becomes act.words xs (path_element act.header.bound (trivial_path v))) c.0 c.1) ∙ z.zero_at _ (o.has v w xs lv l n) c.0)
+            | inl c ↦ subst (λ y. act_arrows h becomes words xs (path_element h.bound (trivial_path v)) y ≡ 0) (word_at words c.0 r c.1 c.2)
+                (sym (get_or-row_of words (act_arrows h becomes words xs (path_element h.bound (trivial_path v))) c.0 c.1) ∙ z.zero_at _ (o.has v w xs lv l n) c.0)
           ]
 
-  pub zero-from_long : (becomes : Path → Path → ℕ) (rows : List (List ℕ)) → AreImages act.header act.words becomes act.header.bound rows → LongVanish act.header act.words becomes → AreZero act.header.field (length act.words) rows
+  pub zero-from_long : (becomes : Path → Path → ℕ) (rows : List (List ℕ)) → AreImages h words becomes h.bound rows → LongVanish h words becomes → AreZero h.field (length words) rows
   unfolding act_arrows
   zero-from_long becomes rows o lv = record {
     zero_at = λ x s j.
         let g = (o.vanish lv).elements x s in
-        ap (λ y. get_or y j 0) (sym g.row) ∙ elim (cases_lt j (length act.words)) [
-          | inl l ↦ get_or-row_of act.words g.element j l ∙ g.vanishes [] 0 0 refl (omega arith) (path_at act.words j)
-          | inr l ↦ get_or-row_of_past act.words g.element j l
+        ap (λ y. get_or y j 0) (sym g.row) ∙ elim (cases_lt j (length words)) [
+          | inl l ↦ get_or-row_of words g.element j l ∙ g.vanishes [] 0 0 refl (omega arith) (path_at words j)
+          | inr l ↦ get_or-row_of_past words g.element j l
         ];
   }

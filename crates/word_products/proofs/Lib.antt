@@ -12,4 +12,3 @@ pub mod ActionSteps
 pub mod DenseRows
 pub mod TouchedRows
 pub mod TakenSums
-pub mod BeforeRows

@@ -7,7 +7,8 @@ use Rattle.linear_algebra.specs.Rows.{unit}
 use Rattle.quiver_paths.specs.declared.Arrow.{Arrow}
 use Rattle.quiver_paths.specs.declared.Path.{Path}
 use Rattle.quiver_paths.specs.Quiver.{arrow_count, source}
-use Rattle.quiver_paths.specs.Path.{path_length, concat, arrow_path}
+use Rattle.quiver_paths.specs.Path.{IsPath, path_length, concat, arrow_path}
+use Rattle.quiver_paths.proofs.PathLemmas.{IsPath-concat, IsPath-arrow, IsPath-same}
 use Rattle.quiver_paths.proofs.QuiverLemmas.{source_is}
 use Rattle.path_algebra.specs.declared.Term.{Term}
 use Rattle.path_algebra.specs.declared.Header.{Header}
@@ -19,7 +20,7 @@ use Rattle.word_products.specs.SparseRows.{acted_terms}
 use Rattle.word_products.specs.WordProducts.{KnowsProducts, CanAct, EndsWithArrows, front_before, IsNewProduct, IsPushed}
 use Rattle.path_algebra.proofs.Columns.{length-row_of, get_or-row_of}
 use Rattle.path_algebra.proofs.Independent.{leads_arrows}
-use Rattle.word_products.proofs.WordRows.{word_at, knows-push, apart-row, long-row, word-row, product-met, length-with}
+use Rattle.word_products.proofs.WordRows.{word_at, short_word, knows-push, apart-row, long-row, word-row, product-met, length-with}
 use Rattle.word_products.proofs.RewrittenRows.{has_ending, front_listed, tail_row}
 
 -- the next product is that of the word at a place with an arrow

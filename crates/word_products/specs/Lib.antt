@@ -2,4 +2,3 @@ pub mod Closure
 pub mod SparseRows
 pub mod WordProducts
 pub mod Vanishing
-pub mod Before

@@ -1,7 +1,7 @@
 -- What acts as zero on the words, and the images of the trivial words under paths of one length.
 use Rattle.std.specs.Prelude.{ℕ, ◌≡◌, ◌<◌, ◌+◌, ◌*◌, List, [], length, Contains, slice_index, slice_index_or}
 use Rattle.linear_algebra.specs.Field.{Gf, order}
-use Rattle.linear_algebra.specs.Rows.{IsInSpan}
+use Rattle.linear_algebra.specs.Rows.{IsRow, IsInSpan}
 use Rattle.quiver_paths.specs.declared.Path.{Path}
 use Rattle.quiver_paths.specs.Quiver.{vertex_count, arrow_count}
 use Rattle.quiver_paths.specs.Path.{IsPath, Leads, path_length, trivial_path}
@@ -11,8 +11,8 @@ use Rattle.path_algebra.specs.declared.rules.Rule.{Rule}
 use Rattle.path_algebra.specs.Elements.{path_element}
 use Rattle.path_algebra.specs.Rows.{RowsView, path_at, row_of}
 use Rattle.path_algebra.specs.Reduction.{IsReduction, act_arrows, act_terms}
-use Rattle.word_products.specs.SparseRows.{SparseView, SumView, acted_by}
-use Rattle.word_products.specs.WordProducts.{KnowsProducts, CanAct}
+use Rattle.word_products.specs.SparseRows.{SparseView, acted_by}
+use Rattle.word_products.specs.WordProducts.{KnowsProducts}
 
 -- the sparse rows are those of all products
 pub record AreAllProducts (h : Header) (words : List Path) (rules : List Rule) (s : SparseView) : Type 0 where
@@ -20,33 +20,6 @@ pub record AreAllProducts (h : Header) (words : List Path) (rules : List Rule) (
   pub width_is : s.width ≡ length words
   pub count : length s.rows ≡ length words * arrow_count h.quiver
   pub known : KnowsProducts h words rules s.rows
-
--- what contracts see of arrows that act on words: the header, the words, and the rows of their products
-pub record ActionView : Type 0 where
-  pub header : Header
-  pub words : List Path
-  pub products : SparseView
-
--- there are rules by which arrows can act, and the rows are those of all products
-pub record IsAction (a : ActionView) : Type 0 where
-  pub rules : List Rule
-  pub can : CanAct a.header a.words rules
-  pub all : AreAllProducts a.header a.words rules a.products
-
--- what paths become by such rules
-pub record ActsBy (a : ActionView) (becomes : Path → Path → ℕ) : Type 0 where
-  pub action : IsAction a
-  pub reduction : IsReduction a.header action.rules becomes
-
--- sums over the words can be made in it
-pub record FitsSum (a : ActionView) (s : SumView) : Type 0 where
-  pub field_is : s.field ≡ a.header.field
-  pub width_is : s.width ≡ length a.words
-
--- its rows are rows over the words
-pub record FitsSpan (a : ActionView) (span : RowsView) : Type 0 where
-  pub field_is : span.field ≡ a.header.field
-  pub columns_are : span.columns ≡ length a.words
 
 -- the relation acts as zero on a word
 abbrev pub VanishesOn : Header → List Path → (Path → Path → ℕ) → Relation → Path → Type 0
@@ -85,36 +58,35 @@ pub record AreImages (h : Header) (words : List Path) (becomes : Path → Path �
   pub vanish : LongVanish h words becomes → RowsVanish h words becomes k rows
 
 -- the collected rows are such
-pub record SpansImages (a : ActionView) (k : ℕ) (span : RowsView) : Type 0 where
-  pub fits : FitsSpan a span
-  pub images : (becomes : Path → Path → ℕ) → ActsBy a becomes → AreImages a.header a.words becomes k span.rows
+pub record SpansImages (h : Header) (words : List Path) (rules : List Rule) (k : ℕ) (span : RowsView) : Type 0 where
+  pub field_is : span.field ≡ h.field
+  pub columns_are : span.columns ≡ length words
+  pub images : (becomes : Path → Path → ℕ) → IsReduction h rules becomes → AreImages h words becomes k span.rows
 
 -- the trivial words among the first i span the collected rows
 pub record AreTrivialRows (h : Header) (words : List Path) (becomes : Path → Path → ℕ) (i : ℕ) (rows : List (List ℕ)) : Type 0 where
   pub has : (j : ℕ) → j < i → path_length (path_at words j) ≡ 0 → IsInSpan h.field (length words) rows (row_of words (path_element h.bound (path_at words j)))
   pub vanish : LongVanish h words becomes → RowsVanish h words becomes 0 rows
 
-pub record SpansTrivial (a : ActionView) (i : ℕ) (span : RowsView) : Type 0 where
-  pub fits : FitsSpan a span
-  pub rows : (becomes : Path → Path → ℕ) → ActsBy a becomes → AreTrivialRows a.header a.words becomes i span.rows
+pub record SpansTrivial (h : Header) (words : List Path) (rules : List Rule) (i : ℕ) (span : RowsView) : Type 0 where
+  pub field_is : span.field ≡ h.field
+  pub columns_are : span.columns ≡ length words
+  pub rows : (becomes : Path → Path → ℕ) → IsReduction h rules becomes → AreTrivialRows h words becomes i span.rows
 
--- the row at a place, and a combination of the rows
-pub record IsRowOf (a : ActionView) (rows : List (List ℕ)) (i : ℕ) (x : List ℕ) : Type 0 where
-  pub place : i < length rows
-  pub value : x ≡ slice_index_or rows i []
-  pub in_span : IsInSpan a.header.field (length a.words) rows x
-
--- what an arrow makes of a row
-abbrev pub image_of : ActionView → ℕ → List ℕ → List ℕ
-image_of a arrow x = acted_by a.header.field a.products.rows (arrow_count a.header.quiver) arrow x
-
--- The first m images of the rows under the arrows, row by row and arrow by arrow, are in the span, and where the rows vanish behind some arrows,
+-- The first m images of the rows under the arrows, row by row and arrow by arrow, are in the span, and where the rows vanish behind k arrows,
 -- these do behind one more.
-pub record HasImages (a : ActionView) (old : List (List ℕ)) (m : ℕ) (span : RowsView) : Type 0 where
-  pub fits : FitsSpan a span
-  pub has : (i arrow : ℕ) → i < length old → arrow < arrow_count a.header.quiver → i * arrow_count a.header.quiver + arrow < m
-      → (length (slice_index_or old i []) ≡ length a.words) × IsInSpan a.header.field (length a.words) span.rows (image_of a arrow (slice_index_or old i []))
-  pub vanish : (becomes : Path → Path → ℕ) → ActsBy a becomes → (k : ℕ) → RowsVanish a.header a.words becomes k old → RowsVanish a.header a.words becomes (k + 1) span.rows
+pub record HasImages (h : Header) (words : List Path) (rules : List Rule) (products : SparseView) (k : ℕ) (old : List (List ℕ)) (m : ℕ) (span : RowsView) : Type 0 where
+  pub field_is : span.field ≡ h.field
+  pub columns_are : span.columns ≡ length words
+  pub has : (i a : ℕ) → i < length old → a < arrow_count h.quiver → i * arrow_count h.quiver + a < m
+      → (length (slice_index_or old i []) ≡ length words) × IsInSpan h.field (length words) span.rows (acted_by h.field products.rows (arrow_count h.quiver) a (slice_index_or old i []))
+  pub vanish : (becomes : Path → Path → ℕ) → IsReduction h rules becomes → RowsVanish h words becomes k old → RowsVanish h words becomes (k + 1) span.rows
+
+-- the row at a place among the collected rows
+pub record IsRowAt (span : RowsView) (i : ℕ) (x : List ℕ) : Type 0 where
+  pub value : x ≡ slice_index_or span.rows i []
+  pub row : IsRow span.field span.columns x
+  pub in_span : IsInSpan span.field span.columns span.rows x
 
 -- all combinations of the rows are zero
 pub record AreZero (q : Gf) (n : ℕ) (rows : List (List ℕ)) : Type 0 where

@@ -2,7 +2,6 @@
 #![tactic(auto)]
 
 mod action;
-mod before;
 mod closure;
 mod multiplying;
 mod sparse;
@@ -10,6 +9,5 @@ mod touched;
 mod word_sums;
 
 pub use action::products_if_action_holds;
-pub use before::rows_before;
 pub use sparse::{Entry, SparseRows};
-pub use word_sums::act_on_word;
+pub use word_sums::{act_on_word, act_on_word_behind};

@@ -216,11 +216,7 @@ fn ends_with(path: &Path, tip: &Path) -> bool
 }
 
 /// Adds the row of a sum, without its zeros. They are taken out of there.
-pub(crate) fn push_sum(
-    alloc: Global,
-    rows: &mut SparseRows,
-    sum: &mut Sum,
-) -> Result<(), AllocError>
+fn push_sum(alloc: Global, rows: &mut SparseRows, sum: &mut Sum) -> Result<(), AllocError>
     requires field { rows.old.field ≡ sum.old.field }
     requires width { rows.old.width ≡ sum.old.width }
     ensures shape { OnOk result (rows.new ≡ record rows.old { rows = rows.new.rows }) }

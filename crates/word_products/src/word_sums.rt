@@ -124,30 +124,6 @@ impl Sum {
         Ok(())
     }
 
-    /// Makes what an arrow, and then other arrows, make of the word at a place.
-    pub(crate) fn of_path(
-        &mut self,
-        rows: &SparseRows,
-        arrows: usize,
-        place: usize,
-        arrow: u8,
-        path: &[u8],
-    ) -> Result<(), AllocError>
-        requires field { rows.now.field ≡ self.old.field }
-        requires width { rows.now.width ≡ self.old.width }
-        requires few { self.old.width ≤ 4096 }
-        requires arrows { arrows ≤ 128 }
-        requires place { place < self.old.width }
-        requires arrow { arrow < arrows }
-        requires path { All (λ a. a < arrows) path.now }
-        ensures { OnOk result (self.new ≡ record self.old { sum = acted_along self.old.field rows.now.rows arrows (arrow ∷ path.now) (unit self.old.width place) }) }
-    {
-        self.sum.set_unit(place as u16)?;
-        self.sum.act_along(rows, arrows, &[arrow], &mut self.spare)?;
-        self.sum.act_along(rows, arrows, path, &mut self.spare)?;
-        Ok(())
-    }
-
     // Makes the row zero.
     fn clear(&mut self)
         ensures { self.new ≡ record self.old { sum = zeros self.old.width } }
@@ -257,5 +233,29 @@ pub fn act_on_word(
     ensures { into.new ≡ acted_along rows.now.field rows.now.rows arrows path.now.arrows (unit rows.now.width place) }
 {
     set_unit(into, place);
+    rows.act_along(arrows, path.arrows.as_slice(), into, spare);
+}
+
+/// Writes what an arrow, and then the arrows of a path, make of the word at a place. `spare` is written over. It takes no memory.
+pub fn act_on_word_behind(
+    rows: &SparseRows,
+    arrows: usize,
+    arrow: u8,
+    path: &Path,
+    place: usize,
+    into: &mut [u8],
+    spare: &mut [u8],
+)
+    requires width { rows.now.width ≤ 4096 }
+    requires arrows { arrows ≤ 128 }
+    requires arrow { arrow < arrows }
+    requires path { All (λ a. a < arrows) path.now.arrows }
+    requires place { place < rows.now.width }
+    requires into { length into.old ≡ rows.now.width }
+    requires spare { length spare.old ≡ rows.now.width }
+    ensures { into.new ≡ acted_along rows.now.field rows.now.rows arrows (arrow ∷ path.now.arrows) (unit rows.now.width place) }
+{
+    set_unit(into, place);
+    rows.act_along(arrows, &[arrow], into, spare);
     rows.act_along(arrows, path.arrows.as_slice(), into, spare);
 }

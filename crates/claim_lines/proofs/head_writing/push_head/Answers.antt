@@ -1,5 +1,5 @@
 use Rattle.std.proofs.Common.{◌≡◌, ◌++◌, sym, subst}
-use Rattle.text_lines.specs.Adding.{Adds}
+use Rattle.std.specs.Prelude.{OnOk}
 use Rattle.claim_lines.specs.declared.heads.Head.{Head}
 use Rattle.claim_lines.specs.Spelling.{behind_spaces, head_form}
 use Rattle.claim_lines.specs.Reading.{IsLong}
@@ -19,5 +19,5 @@ push_long_head-requires-in-AlmostSplit c = subst IsLong (sym c.in-AlmostSplit.is
 
 pub returns-in-Resolution : goal.returns-in-Resolution
 returns-in-Resolution c =
-    subst (λ (x : Head). Adds (behind_spaces (head_form x)) c.args.out.now.items c.push_form-in-Resolution.new.out.items c.push_form-in-Resolution.result) (sym c.in-Resolution.is)
+    subst (λ (x : Head). OnOk c.push_form-in-Resolution.result (c.push_form-in-Resolution.new.out.items ≡ c.args.out.now.items ++ behind_spaces (head_form x))) (sym c.in-Resolution.is)
     c.push_form-in-Resolution.ensures

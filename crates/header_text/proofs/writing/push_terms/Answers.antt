@@ -1,8 +1,6 @@
-use Rattle.std.proofs.Common.{rules, ◌++◌, ◌<◌, length, ap, ◌∙◌, arith}
+use Rattle.std.proofs.Common.{◌++◌, ◌<◌, length, ap, ◌∙◌, arith}
 use Rattle.header_text.proofs.Joining.{plus_take, piece_step}
 use Rattle.header_text.specs.Spelling.{term_text}
-use Rattle.text_lines.specs.Adding.{IsPrefix}
-use Rattle.text_lines.proofs.Prefixes.{prefix_behind_two}
 use Rattle.header_text.proofs.writing.push_terms.Goals as goal
 
 pub loop-i-preserved : goal.loop-i-preserved
@@ -11,8 +9,3 @@ loop-i-preserved c =
     piece_step _ _ _ _ _ _ _ _ c.loop-i.invariant c.in_ok-push_between.ensures
     (c.in_ok-push_term.ensures ∙ ap (λ r. c.push_between.new.out.items ++ term_text c.args.quiver.now r) c.index-terms-i.is)
     (plus_take (term_text c.args.quiver.now) c.args.terms.now c.loop-i.i c.index-terms-i.result inside)
-
-pub returns-in_err-push_term : goal.returns-in_err-push_term
-returns-in_err-push_term c =
-    let kept : IsPrefix c.args.out.now.items c.push_term.new.out.items = prefix_behind_two _ _ c.loop-i.invariant c.in_ok-push_between.ensures c.in_err-push_term.ensures in
-    search (rules, kept)

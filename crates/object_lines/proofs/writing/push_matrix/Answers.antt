@@ -1,9 +1,7 @@
-use Rattle.std.proofs.Common.{rules, ◌≡◌, ◌<◌, [], ◌++◌, length, ap, ◌∙◌, arith}
+use Rattle.std.proofs.Common.{◌≡◌, ◌<◌, [], ◌++◌, length, ap, ◌∙◌, arith}
 use Rattle.object_lines.specs.Spelling.{numbers_form}
 use Rattle.object_lines.specs.Written.{behind_spaces}
 use Rattle.object_lines.proofs.WrittenLines.{row_step}
-use Rattle.text_lines.specs.Adding.{IsPrefix}
-use Rattle.text_lines.proofs.Prefixes.{prefix_behind_two}
 use Rattle.object_lines.proofs.writing.push_matrix.Goals as goal
 
 pub loop-i-preserved : goal.loop-i-preserved
@@ -12,8 +10,3 @@ loop-i-preserved c =
     let inside : c.loop-i.i < length c.args.m.now.rows = omega arith in
     row_step _ _ _ _ c.args.m.now.rows c.loop-i.i [] inside c.loop-i.invariant c.in_ok-push_slash.ensures
     (c.in_ok-push_entries.ensures ∙ ap (λ r. c.push_slash.new.out.items ++ behind_spaces (numbers_form r)) c.row.ensures.row)
-
-pub returns-in_err-push_entries : goal.returns-in_err-push_entries
-returns-in_err-push_entries c =
-    let kept : IsPrefix c.args.out.now.items c.push_entries.new.out.items = prefix_behind_two _ _ c.loop-i.invariant c.in_ok-push_slash.ensures c.in_err-push_entries.ensures in
-    search (rules, kept)

@@ -1,5 +1,0 @@
-use Rattle.word_products.specs.Vanishing.{SpansTrivial}
-use Rattle.word_products.proofs.action.Action.trivial_words.Given as goal
-
-abbrev pub invariant-loop-i : goal.invariant-loop-i
-invariant-loop-i l = SpansTrivial l.self l.i l.span
