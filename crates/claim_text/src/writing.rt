@@ -1,6 +1,5 @@
 //! Writing reports. Each writer adds behind what is there; where memory is wanting, `Err`, and a front of the lines may stand there.
 ghost use Rattle.std.specs.Prelude.{ℕ, ◌≡◌, ◌<◌, ◌≤◌, ◌^◌, ◌+◌, ◌++◌, ◌∷◌, [], ◌-◌, All, length, map, take, slice_index_or, IfOk, OnOk};
-ghost use Rattle.text_lines.specs.Adding.{Adds};
 ghost use Rattle.text_lines.specs.Strict.{strict_line};
 ghost use Rattle.path_algebra.specs.declared.Header.{Header};
 ghost use Rattle.report_types.specs.declared.claims.Record.{Record};
@@ -29,9 +28,8 @@ use report_types::{Claim, PartClaim, Record, Report};
 use seq::Seq;
 use std::alloc::{AllocError, Global};
 
-#[tactic(auto, using(text_lines::proofs::Prefixes::prefix_behind))]
 fn push_gens(out: &mut Vec<u8>, images: &[Seq<u8>]) -> Result<(), AllocError>
-    ensures { Adds (text_of (map gen_line images.now)) out.old.items out.new.items result }
+    ensures { OnOk result (out.new.items ≡ out.old.items ++ text_of (map gen_line images.now)) }
 {
     for image in images {
         push_gen_line(out, image.as_slice())?;
@@ -41,7 +39,7 @@ fn push_gens(out: &mut Vec<u8>, images: &[Seq<u8>]) -> Result<(), AllocError>
 
 /// Adds term k of a resolution, with the rows of its generators.
 fn push_term(out: &mut Vec<u8>, quiver: &Quiver, k: u32, term: &TermRows) -> Result<(), AllocError>
-    ensures { Adds (text_of (term_block quiver.now k term.now)) out.old.items out.new.items result }
+    ensures { OnOk result (out.new.items ≡ out.old.items ++ text_of (term_block quiver.now k term.now)) }
 {
     push_term_line(out, quiver, k, term.vertices.as_slice())?;
     push_gens(out, term.images.as_slice())?;
@@ -49,10 +47,9 @@ fn push_term(out: &mut Vec<u8>, quiver: &Quiver, k: u32, term: &TermRows) -> Res
 }
 
 /// Adds the terms of a resolution.
-#[tactic(auto, using(text_lines::proofs::Prefixes::prefix_behind))]
 fn push_terms(out: &mut Vec<u8>, quiver: &Quiver, terms: &[TermRows]) -> Result<(), AllocError>
     requires { length terms.now < 2 ^ 32 }
-    ensures { Adds (text_of (term_lines quiver.now 0 terms.now)) out.old.items out.new.items result }
+    ensures { OnOk result (out.new.items ≡ out.old.items ++ text_of (term_lines quiver.now 0 terms.now)) }
 {
     for (k, term) in terms.iter().enumerate() {
         push_term(out, quiver, k as u32, term)?;
@@ -69,7 +66,7 @@ fn push_module(
 ) -> Result<(), AllocError>
     requires room { before + 1 < 2 ^ 32 }
     requires short { IsShortModule m.now }
-    ensures { Adds (text_of (module_block header.now before m.now)) out.old.items out.new.items result }
+    ensures { OnOk result (out.new.items ≡ out.old.items ++ text_of (module_block header.now before m.now)) }
 {
     push_module_line(out, before + 1, m.side, m.dims.as_slice())?;
     push_at_arrows(out, &header.quiver, m.matrices.as_slice())?;
@@ -80,7 +77,7 @@ fn push_module(
 fn push_map(out: &mut Vec<u8>, header: &Header, before: u32, f: &Map) -> Result<(), AllocError>
     requires room { before + 1 < 2 ^ 32 }
     requires short { IsShortMap f.now }
-    ensures { Adds (text_of (map_block header.now before f.now)) out.old.items out.new.items result }
+    ensures { OnOk result (out.new.items ≡ out.old.items ++ text_of (map_block header.now before f.now)) }
 {
     push_map_line(out, before + 1, f.source, f.target)?;
     push_at_vertices(out, &header.quiver, f.matrices.as_slice())?;
@@ -88,7 +85,6 @@ fn push_map(out: &mut Vec<u8>, header: &Header, before: u32, f: &Map) -> Result<
 }
 
 /// Adds modules behind so many.
-#[tactic(auto, using(text_lines::proofs::Prefixes::prefix_behind))]
 fn push_modules(
     out: &mut Vec<u8>,
     header: &Header,
@@ -97,7 +93,7 @@ fn push_modules(
 ) -> Result<(), AllocError>
     requires room { before + length modules.now < 2 ^ 32 }
     requires short { All IsShortModule modules.now }
-    ensures { Adds (text_of (module_lines header.now before modules.now)) out.old.items out.new.items result }
+    ensures { OnOk result (out.new.items ≡ out.old.items ++ text_of (module_lines header.now before modules.now)) }
 {
     for (i, m) in modules.iter().enumerate() {
         push_module(out, header, before + i as u32, m)?;
@@ -106,7 +102,6 @@ fn push_modules(
 }
 
 /// Adds maps behind so many.
-#[tactic(auto, using(text_lines::proofs::Prefixes::prefix_behind))]
 fn push_maps(
     out: &mut Vec<u8>,
     header: &Header,
@@ -115,7 +110,7 @@ fn push_maps(
 ) -> Result<(), AllocError>
     requires room { before + length maps.now < 2 ^ 32 }
     requires short { All IsShortMap maps.now }
-    ensures { Adds (text_of (map_lines header.now before maps.now)) out.old.items out.new.items result }
+    ensures { OnOk result (out.new.items ≡ out.old.items ++ text_of (map_lines header.now before maps.now)) }
 {
     for (i, f) in maps.iter().enumerate() {
         push_map(out, header, before + i as u32, f)?;
@@ -123,9 +118,8 @@ fn push_maps(
     Ok(())
 }
 
-#[tactic(auto, using(text_lines::proofs::Prefixes::prefix_behind))]
 fn push_words(out: &mut Vec<u8>, quiver: &Quiver, words: &[Path]) -> Result<(), AllocError>
-    ensures { Adds (text_of (map (word_line quiver.now) words.now)) out.old.items out.new.items result }
+    ensures { OnOk result (out.new.items ≡ out.old.items ++ text_of (map (word_line quiver.now) words.now)) }
 {
     for word in words {
         push_word(out, quiver, word)?;
@@ -133,9 +127,8 @@ fn push_words(out: &mut Vec<u8>, quiver: &Quiver, words: &[Path]) -> Result<(), 
     Ok(())
 }
 
-#[tactic(auto, using(text_lines::proofs::Prefixes::prefix_behind))]
 fn push_steps(out: &mut Vec<u8>, quiver: &Quiver, steps: &[Step]) -> Result<(), AllocError>
-    ensures { Adds (text_of (step_lines quiver.now 1 steps.now)) out.old.items out.new.items result }
+    ensures { OnOk result (out.new.items ≡ out.old.items ++ text_of (step_lines quiver.now 1 steps.now)) }
 {
     for (i, step) in steps.iter().enumerate() {
         push_step(out, quiver, i as u64 + 1, *step)?;
@@ -143,9 +136,8 @@ fn push_steps(out: &mut Vec<u8>, quiver: &Quiver, steps: &[Step]) -> Result<(), 
     Ok(())
 }
 
-#[tactic(auto, using(text_lines::proofs::Prefixes::prefix_behind))]
 fn push_rules(out: &mut Vec<u8>, quiver: &Quiver, rules: &[Rule]) -> Result<(), AllocError>
-    ensures { Adds (text_of (map (rule_line quiver.now) rules.now)) out.old.items out.new.items result }
+    ensures { OnOk result (out.new.items ≡ out.old.items ++ text_of (map (rule_line quiver.now) rules.now)) }
 {
     for rule in rules {
         push_rule(out, quiver, rule)?;
@@ -161,7 +153,7 @@ fn push_block(
     steps: &[Step],
     rules: &[Rule],
 ) -> Result<(), AllocError>
-    ensures { Adds (text_of (block_lines quiver.now words.now steps.now rules.now)) out.old.items out.new.items result }
+    ensures { OnOk result (out.new.items ≡ out.old.items ++ text_of (block_lines quiver.now words.now steps.now rules.now)) }
 {
     push_count(out, b"words", words.len() as u64)?;
     push_words(out, quiver, words)?;
@@ -178,7 +170,7 @@ fn push_local(
     power: u32,
     residue: Residue,
 ) -> Result<(), AllocError>
-    ensures { Adds (text_of (ideal_line ideal.now.row_count ∷ (map row_line ideal.now.rows ++ (power_line power ∷ residue_line residue ∷ [])))) out.old.items out.new.items result }
+    ensures { OnOk result (out.new.items ≡ out.old.items ++ text_of (ideal_line ideal.now.row_count ∷ (map row_line ideal.now.rows ++ (power_line power ∷ residue_line residue ∷ [])))) }
 {
     push_ideal_line(out, ideal.rows())?;
     push_row_lines(out, ideal)?;
@@ -195,7 +187,7 @@ fn push_sequence(
     middle: &[Matrix],
 ) -> Result<(), AllocError>
     requires { (length left.now ≤ 256) × (length middle.now ≤ 256) }
-    ensures { Adds (text_of (phi_line phi.now ∷ left_line ∷ (at_vertices header.now left.now ++ (middle_line ∷ at_vertices header.now middle.now)))) out.old.items out.new.items result }
+    ensures { OnOk result (out.new.items ≡ out.old.items ++ text_of (phi_line phi.now ∷ left_line ∷ (at_vertices header.now left.now ++ (middle_line ∷ at_vertices header.now middle.now)))) }
 {
     push_phi_line(out, phi)?;
     push_left_line(out)?;
@@ -209,7 +201,7 @@ fn push_sequence(
 fn push_certificate(out: &mut Vec<u8>, header: &Header, claim: &Claim) -> Result<(), AllocError>
     requires short { IsShortClaim claim.now }
     requires kind { HasCertificate claim.now }
-    ensures { Adds (text_of (claim_block header.now claim.now)) out.old.items out.new.items result }
+    ensures { OnOk result (out.new.items ≡ out.old.items ++ text_of (claim_block header.now claim.now)) }
 {
     match claim {
         Claim::Local {
@@ -237,7 +229,7 @@ fn push_certificate(out: &mut Vec<u8>, header: &Header, claim: &Claim) -> Result
 /// Adds the lines of a claim behind its first.
 fn push_claim(out: &mut Vec<u8>, header: &Header, claim: &Claim) -> Result<(), AllocError>
     requires { IsShortClaim claim.now }
-    ensures { Adds (text_of (claim_block header.now claim.now)) out.old.items out.new.items result }
+    ensures { OnOk result (out.new.items ≡ out.old.items ++ text_of (claim_block header.now claim.now)) }
 {
     match claim {
         Claim::Basis {
@@ -415,7 +407,7 @@ fn first_head(alloc: Global, claim: &Claim) -> Result<Head, AllocError>
 
 /// Adds the first line of claim k.
 fn push_first_line(out: &mut Vec<u8>, k: u32, line: u32, claim: &Claim) -> Result<(), AllocError>
-    ensures { Adds (strict_line (claim_line k line (head_of claim.now))) out.old.items out.new.items result }
+    ensures { OnOk result (out.new.items ≡ out.old.items ++ strict_line (claim_line k line (head_of claim.now))) }
 {
     let first = first_head(*out.allocator(), claim)?;
     push_claim_line(out, k, line, &first)?;
@@ -435,7 +427,7 @@ pub fn push_record(
     requires few_modules { modules + length item.now.modules < 2 ^ 32 }
     requires few_maps { maps + length item.now.maps < 2 ^ 32 }
     requires writable { IsWritable item.now }
-    ensures { Adds (record_text header.now modules maps (k - 1) item.now) out.old.items out.new.items result }
+    ensures { OnOk result (out.new.items ≡ out.old.items ++ record_text header.now modules maps (k - 1) item.now) }
 {
     push_modules(out, header, modules, item.modules.as_slice())?;
     push_maps(out, header, maps, item.maps.as_slice())?;
@@ -444,13 +436,12 @@ pub fn push_record(
     Ok(())
 }
 
-#[tactic(auto, using(text_lines::proofs::Prefixes::prefix_behind))]
 fn push_records(out: &mut Vec<u8>, header: &Header, items: &[Record]) -> Result<(), AllocError>
     requires few { length items.now < 2 ^ 32 }
     requires few_modules { length (modules_of items.now) < 2 ^ 32 }
     requires few_maps { length (maps_of items.now) < 2 ^ 32 }
     requires writable { All IsWritable items.now }
-    ensures { Adds (text_of (records_lines header.now 0 0 0 items.now)) out.old.items out.new.items result }
+    ensures { OnOk result (out.new.items ≡ out.old.items ++ text_of (records_lines header.now 0 0 0 items.now)) }
 {
     let mut modules: u32 = 0;
     let mut maps: u32 = 0;
@@ -488,7 +479,7 @@ fn count_maps(items: &[Record]) -> u32
 
 /// Adds the title and the header.
 fn push_front(out: &mut Vec<u8>, header: &Header) -> Result<(), AllocError>
-    ensures { Adds (text_of (title_line ∷ header_lines header.now)) out.old.items out.new.items result }
+    ensures { OnOk result (out.new.items ≡ out.old.items ++ text_of (title_line ∷ header_lines header.now)) }
 {
     out.extend_from_slice(b"report 1\n")?;
     push_header(out, header)?;

@@ -4,4 +4,4 @@ use Rattle.claim_text.proofs.TakenLines.{no_count}
 use Rattle.claim_text.proofs.part.Part.take_step_count.Goals as goal
 
 pub returns-in_default : goal.returns-in_default
-returns-in_default c = no_count (codes "steps") (with_step_count c.args.self.now) c.args.tokens c.take_word.new.self (rw c.if-not-take_word.false at c.take_word.ensures.taken) c.in_default.ensures
+returns-in_default c = no_count (codes "steps") (with_step_count c.args.self.now) c.args.tokens c.take_word.new.self (rw c.if-not-take_word.false at c.take_word.ensures) c.in_default.ensures
